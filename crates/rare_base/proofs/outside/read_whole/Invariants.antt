@@ -1,0 +1,15 @@
+use Rattle.std.proofs.Common.{◌≡◌, ℕ, ◌+◌, ◌-◌, ◌^◌, ◌≤◌, List, length, IfSome}
+use Rattle.rare_base.specs.Outside.{HasRead}
+use Rattle.rare_base.proofs.outside.read_whole.Given as goal
+
+abbrev pub invariant-loop-buf : goal.invariant-loop-buf
+invariant-loop-buf g l = record {
+  short : length l.text ≤ 2 ^ 28 + 1;
+  room : length l.buf ≡ 65536;
+  front : IfSome (g.L.Library.text l.fn.files l.name) (λ all. HasRead all l.text);
+  texts : (w : List ℕ) → g.L.Library.text l.files w ≡ g.L.Library.text l.fn.files w;
+  quiet : (w : List ℕ) → g.L.Library.faults l.files w ≡ g.L.Library.faults l.fn.files w;
+}
+
+abbrev pub decreases-loop-buf : goal.decreases-loop-buf
+decreases-loop-buf g l = 2 ^ 28 + 2 - length l.text

@@ -1,0 +1,4 @@
+pub mod Answers
+pub mod Outside
+pub mod Memory
+pub mod MemoryTexts
