@@ -1,0 +1,13 @@
+pub mod Trees
+pub mod Counting
+pub mod Stacks
+pub mod Parsers
+pub mod Readers
+pub mod Depths
+pub mod Waiting
+pub mod Spelled
+pub mod Words
+pub mod Spelling
+pub mod Items
+pub mod Readings
+pub mod Deep

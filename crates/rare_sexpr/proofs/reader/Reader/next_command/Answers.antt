@@ -1,0 +1,27 @@
+use Rattle.std.proofs.Common.{sym, ◌∙◌}
+use Rattle.rare_sexpr.proofs.Readers.{found_first, first_decided, found_undecided, found_idle}
+use Rattle.rare_sexpr.proofs.reader.Reader.next_command.Goals as goal
+
+pub returns-in-Ok-Command-clause-next : goal.returns-in-Ok-Command-clause-next
+returns-in-Ok-Command-clause-next c =
+    found_first c.self.inside c.args.self.now c.deref.result.now c.replace-parser.result c.in-Ok-Command.field-0 c.in-Ok-Command.command c.in-Ok-Command.taken c.read.new.self
+    c.self.invariant c.in_default.is c.self.view_is c.deref.ensures.value c.replace-parser.ensures.value c.in-Ok-Command.field-0-is c.in-Ok-Command.ensures
+
+pub returns-in-Ok-Command-clause-more : goal.returns-in-Ok-Command-clause-more
+returns-in-Ok-Command-clause-more c = first_decided _ _ _ (returns-in-Ok-Command-clause-next c)
+
+pub returns-in-Ok-NeedMore-clause-more : goal.returns-in-Ok-NeedMore-clause-more
+returns-in-Ok-NeedMore-clause-more c =
+    found_undecided c.self.inside c.args.self.now c.deref.result.now c.replace-parser.result c.in-Ok-NeedMore.field-0 c.read.new.self
+    c.self.invariant c.in_default.is c.self.view_is c.deref.ensures.value c.replace-parser.ensures.value c.in-Ok-NeedMore.field-0-is c.in-Ok-NeedMore.ensures
+
+pub returns-in-Ok-NeedMore-2-clause-more : goal.returns-in-Ok-NeedMore-2-clause-more
+returns-in-Ok-NeedMore-2-clause-more c =
+    found_undecided c.self.inside c.args.self.now c.deref.result.now c.replace-parser.result c.in-Ok-NeedMore.field-0 c.read.new.self
+    c.self.invariant c.in_default.is c.self.view_is c.deref.ensures.value c.replace-parser.ensures.value c.in-Ok-NeedMore.field-0-is c.in-Ok-NeedMore.ensures
+
+pub invariant_of-self-then-is_idle : goal.invariant_of-self-then-is_idle
+invariant_of-self-then-is_idle c =
+    let r = c.self.inside in
+    found_idle r c.deref.result.now c.replace-parser.result c.in-Ok-NeedMore.field-0 c.read.new.self c.len-self-inside.result
+    c.self.invariant c.deref.ensures.value c.replace-parser.ensures.value c.in-Ok-NeedMore.field-0-is (c.len-self-inside.ensures ∙ r.bytes.ok.0) (sym c.is_idle.ensures ∙ c.if-is_idle.true) c.in-Ok-NeedMore.ensures

@@ -1,0 +1,59 @@
+-- What a reader answers.
+use Rattle.std.specs.Prelude.{◌≡◌, ℕ, ◌<◌, ◌≤◌, true, false, List, [], length, Some, None, Result, Ok, Err}
+use Rattle.rare_base.specs.declared.answers.Place.{Place}
+use Rattle.rare_base.specs.declared.answers.Reason.{Reason}
+use Rattle.rare_base.specs.declared.answers.Fault.{Fault}
+use Rattle.rare_base.specs.declared.answers.Fault.TheVariants as fault
+use Rattle.rare_sexpr.specs.declared.tree.Sexpr.{Sexpr}
+use Rattle.rare_sexpr.specs.declared.reader.Next.{Next}
+use Rattle.rare_sexpr.specs.declared.reader.Next.TheVariants as next
+use Rattle.rare_sexpr.specs.Tree.{depth}
+use Rattle.rare_sexpr.specs.Commands.{put_first, no_commands, head_of}
+use Rattle.rare_sexpr.specs.Streams.{Stream, commands_left}
+
+-- the first of the commands that are left, in which at most 5,000 lists stand in one another
+pub record IsFirst (old : Stream) (e : Sexpr) (new : Stream) : Type 0 where
+  pub rest : (more : List ℕ) → (old.ended ≡ true → more ≡ []) → commands_left old more ≡ put_first e (commands_left new more)
+  pub kept : (new.fed ≡ old.fed) × (new.ended ≡ old.ended) × (new.refusal ≡ None) × (length new.rest < length old.rest)
+  pub shallow : depth e ≤ 5001
+
+-- none yet
+pub record IsWaiting (old new : Stream) : Type 0 where
+  pub «open» : old.ended ≡ false
+  pub rest : (more : List ℕ) → commands_left new more ≡ commands_left old more
+  pub kept : (new.fed ≡ old.fed) × (new.ended ≡ old.ended) × (new.refusal ≡ old.refusal) × (length new.rest ≤ length old.rest)
+
+-- no further command, and no fault
+pub record IsFinished (old new : Stream) : Type 0 where
+  pub ended : old.ended ≡ true
+  pub rest : commands_left old [] ≡ no_commands
+  pub after : commands_left new [] ≡ no_commands
+  pub kept : (new.fed ≡ old.fed) × (new.ended ≡ old.ended) × (new.refusal ≡ old.refusal) × (length new.rest ≤ length old.rest)
+
+-- the fault, which stands from then on
+pub record IsRefused (old : Stream) (place : Place) (reason : Reason) (new : Stream) : Type 0 where
+  pub rest : (more : List ℕ) → (old.ended ≡ true → more ≡ []) → commands_left old more ≡ record { list = []; fault = Some (record { place = place; reason = reason }) }
+  pub stands : new.refusal ≡ Some (record { place = place; reason = reason })
+  pub kept : (new.fed ≡ old.fed) × (new.ended ≡ old.ended)
+
+abbrev pub IsNext : Stream → Result Next Fault → Stream → Type 0
+IsNext old (Ok (next.Command e)) new = IsFirst old e new
+IsNext old (Ok next.NeedMore) new = IsWaiting old new
+IsNext old (Ok next.Finished) new = IsFinished old new
+IsNext old (Err (fault.Refused place reason)) new = IsRefused old place reason new
+IsNext old (Err fault.Memory) new = new ≡ old
+
+-- The bytes left are blanks and comments alone, or these and the front of a command that is not whole:
+-- the text goes on, with some further bytes a command comes first, and with others none.
+pub record IsUndecided (s : Stream) : Type 0 where
+  pub «open» : s.ended ≡ false
+  pub begun : (more : List ℕ) × (e : Sexpr) × (head_of (commands_left s more) ≡ Some e)
+  pub unfinished : (more : List ℕ) × (head_of (commands_left s more) ≡ None)
+
+-- more bytes are asked for exactly there, unless memory ran out
+abbrev pub AsksForMore : Stream → Result Next Fault → Type 0
+AsksForMore s (Ok next.NeedMore) = IsUndecided s
+AsksForMore s (Ok (next.Command e)) = ¬ (IsUndecided s)
+AsksForMore s (Ok next.Finished) = ¬ (IsUndecided s)
+AsksForMore s (Err (fault.Refused place reason)) = ¬ (IsUndecided s)
+AsksForMore s (Err fault.Memory) = Unit {0}

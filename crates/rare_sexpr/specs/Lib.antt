@@ -1,0 +1,10 @@
+pub mod Tree
+pub mod Bytes
+pub mod Tokens
+pub mod Commands
+pub mod Parsing
+pub mod Streams
+pub mod Kept
+pub mod Answered
+pub mod Written
+pub mod Grammar

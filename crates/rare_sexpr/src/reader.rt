@@ -1,0 +1,183 @@
+ghost use Rattle.std.specs.Prelude.{◌≡◌, ◌++◌, ◌+◌, ◌-◌, ◌^◌, ◌≤◌, length, false, true, OnOk, OnErr};
+ghost use Rattle.rare_base.specs.Answers.{unread_at};
+ghost use Rattle.rare_sexpr.specs.Streams.{new_stream};
+ghost use Rattle.rare_sexpr.specs.Answered.{IsNext, AsksForMore};
+
+use crate::parser::{Found, Parser};
+use crate::tree::Sexpr;
+use rare_base::{Fault, Place, Reason};
+use std::alloc::{AllocError, Global};
+use std::marker::Model;
+use std::mem;
+
+/// What comes next of a text.
+#[derive(Debug, Drop)]
+pub enum Next {
+    /// The next command.
+    Command(Sexpr),
+    /// Bytes are wanting, or the word that the text ends.
+    NeedMore,
+    /// No further command.
+    Finished,
+}
+
+/// Why and where a text is refused.
+#[derive(Clone, Copy, Debug, PartialEq, Eq)]
+pub struct Refused {
+    place: Place,
+    reason: Reason,
+}
+
+/// Reads the commands of a text that is fed in pieces of any size.
+///
+/// It keeps the bytes that are not yet taken, and reads each byte once. Contracts see those bytes, the
+/// place of the first of them, the number of bytes fed, whether the end was told, and the refusal that
+/// stands.
+#[derive(Debug, Drop)]
+pub struct Reader {
+    alloc: Global,
+    bytes: Vec<u8>,
+    // How many of the bytes are taken, and how many the parser has read.
+    start: usize,
+    seen: usize,
+    place: Place,
+    parser: Parser,
+    fed: usize,
+    ended: bool,
+    refusal: Option<Refused>,
+}
+
+impl Model for Reader {
+    ghost use Rattle.rare_sexpr.specs.Streams.{Stream};
+
+    ghost Value = { Stream };
+
+    ghost use Rattle.rare_sexpr.specs.Kept.{stream_of, IsKept};
+
+    ghost view = { stream_of };
+
+    ghost invariant = { IsKept };
+}
+
+const FIRST: Place = Place { line: 1, column: 1 };
+
+impl Reader {
+    /// A reader that was fed nothing. It takes no memory.
+    pub fn new(alloc: Global) -> Reader
+        ensures { result ≡ new_stream }
+    {
+        Reader {
+            alloc,
+            bytes: Vec::new(alloc),
+            start: 0,
+            seen: 0,
+            place: FIRST,
+            parser: Parser::new(alloc, FIRST),
+            fed: 0,
+            ended: false,
+            refusal: None,
+        }
+    }
+
+    /// Adds bytes at the end. Where memory is wanting, the reader stays.
+    pub fn feed(&mut self, bytes: &[u8]) -> Result<(), AllocError>
+        requires untold { self.old.ended ≡ false }
+        requires short { self.old.fed + length bytes.now ≤ 2 ^ 32 - 2 }
+        ensures ok { OnOk result (self.new ≡ record self.old { rest = self.old.rest ++ bytes.now; fed = self.old.fed + length bytes.now }) }
+        ensures err { OnErr result (self.new ≡ self.old) }
+    {
+        if self.start > self.bytes.len() / 2 {
+            self.forget_taken();
+        }
+        self.add(bytes)
+    }
+
+    fn add(&mut self, bytes: &[u8]) -> Result<(), AllocError>
+        requires { self.old.fed + length bytes.now ≤ 2 ^ 32 - 2 }
+        ensures ok { OnOk result (self.new ≡ record self.old { rest = self.old.rest ++ bytes.now; fed = self.old.fed + length bytes.now }) }
+        ensures err { OnErr result (self.new ≡ self.old) }
+    {
+        self.bytes.extend_from_slice(bytes)?;
+        self.fed += bytes.len();
+        Ok(())
+    }
+
+    // Moves the bytes that are not yet taken to the front.
+    fn forget_taken(&mut self)
+        ensures { self.new ≡ self.old }
+    {
+        self.bytes.drain(..self.start);
+        self.seen -= self.start;
+        self.start = 0;
+    }
+
+    /// Tells the end of the text.
+    pub fn end(&mut self)
+        ensures { self.new ≡ record self.old { ended = true } }
+    {
+        self.ended = true;
+    }
+
+    /// How many bytes are not yet taken.
+    pub fn len(&self) -> usize
+        ensures { result ≡ length self.now.rest }
+    {
+        self.bytes.len() - self.start
+    }
+
+    fn refuse(&mut self, place: Place) -> Fault
+        ensures fault { result ≡ Fault.Refused place Reason.Unread }
+        ensures state { self.new ≡ record self.old { refusal = Some (unread_at place) } }
+    {
+        let reason = Reason::Unread;
+        self.refusal = Some(Refused { place, reason });
+        Fault::Refused { place, reason }
+    }
+
+    /// The next command.
+    ///
+    /// `NeedMore` and `Finished` come where no command is whole and none is refused, by whether the end
+    /// was told. A refusal stands from then on. After want of memory the reader is as before.
+    #[tactic(auto, using(crate::proofs::Readers::first_decided, crate::proofs::Readers::refused_decided, crate::proofs::Readers::finished_decided))]
+    pub fn next_command(&mut self) -> Result<Next, Fault>
+        ensures next { IsNext self.old result self.new }
+        ensures more { AsksForMore self.old result }
+    {
+        if let Some(Refused { place, reason }) = self.refusal {
+            return Err(Fault::Refused { place, reason });
+        }
+        let from = self.seen;
+        let mut parser = mem::replace(&mut self.parser, Parser::new(self.alloc, self.place));
+        self.seen = self.start;
+        match parser.read(self.alloc, &self.bytes[from..], self.ended) {
+            Ok(Found::Command { command, taken }) => {
+                self.start = from + taken;
+                self.seen = self.start;
+                self.place = parser.place;
+                self.parser = Parser::new(self.alloc, parser.place);
+                Ok(Next::Command(command))
+            }
+            Ok(Found::Refused(place)) => Err(self.refuse(place)),
+            Ok(Found::NeedMore) if parser.is_idle() => {
+                self.start = self.bytes.len();
+                self.seen = self.start;
+                self.place = parser.place;
+                self.parser = parser;
+                Ok(Next::NeedMore)
+            }
+            Ok(Found::NeedMore) => {
+                self.seen = self.bytes.len();
+                self.parser = parser;
+                Ok(Next::NeedMore)
+            }
+            Ok(Found::Finished) => {
+                self.start = self.bytes.len();
+                self.seen = self.start;
+                self.place = parser.place;
+                self.parser = Parser::new(self.alloc, parser.place);
+                Ok(Next::Finished)
+            }
+            Err(_) => Err(Fault::Memory),
+        }
+    }
+}
