@@ -1,0 +1,4 @@
+pub mod TreeLaws
+pub mod Keeping
+pub mod MeaningLemmas
+pub mod SameTreesLemmas
