@@ -1,0 +1,12 @@
+pub mod Naming
+pub mod Listing
+pub mod Growing
+pub mod Soundness
+pub mod Spelling
+pub mod Problems
+pub mod CommandForms
+pub mod Judgements
+pub mod Advancing
+pub mod Answering
+pub mod Holding
+pub mod Starting

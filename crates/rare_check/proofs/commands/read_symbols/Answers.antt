@@ -1,0 +1,16 @@
+use Rattle.std.proofs.Common.{◌∙◌, sym, ap, ◌∷◌, [], ◌++◌, Some}
+use Rattle.rare_sexpr.specs.Tree.{items_of}
+use Rattle.rare_check.proofs.CommandForms.{symbols_more, symbols_stop}
+use Rattle.rare_check.proofs.commands.read_symbols.Goals as goal
+
+pub returns-then-not-is_symbol_expression : goal.returns-then-not-is_symbol_expression
+returns-then-not-is_symbol_expression g c =
+    symbols_stop (items_of (g.E.Expr.tree c.args.e.now)) c.loop-k.k (g.E.Expr.tree c.item-item.result.now) c.loop-k.texts c.loop-k.invariant c.item-item.ensures
+    (sym c.is_symbol_expression.ensures ∙ c.if-not-is_symbol_expression.true)
+
+pub loop-k-preserved : goal.loop-k-preserved
+loop-k-preserved g c =
+    let text = c.in_ok-of.ensures ∙ c.text.ensures in
+    symbols_more (items_of (g.E.Expr.tree c.args.e.now)) c.loop-k.k (g.E.Expr.tree c.item-item.result.now) c.loop-k.texts c.loop-k.invariant c.item-item.ensures
+    (sym c.is_symbol_expression.ensures ∙ c.if-not-is_symbol_expression.false)
+    ∙ ap Some (ap (λ t. c.loop-k.texts ++ t ∷ []) (sym text) ∙ sym c.in_ok-push.ensures.ok)

@@ -1,0 +1,74 @@
+-- A proof that is checked as it comes: what a checker holds, and the answer it gives with the bytes that follow.
+use Rattle.std.specs.Prelude.{◌≡◌, ℕ, suc, ◌||◌, nat_eq, List, [], ◌∷◌, slice_get, Option, Some, None, Result, Err}
+use Rattle.std.specs.List.{list_any}
+use Rattle.rare_base.specs.declared.answers.Fault.{Fault}
+use Rattle.rare_base.specs.declared.answers.Fault.TheVariants as fault
+use Rattle.rare_base.specs.Answers.{Refusal}
+use Rattle.rare_sexpr.specs.Commands.{Commands}
+use Rattle.rare_sexpr.specs.Streams.{Stream, new_stream, commands_left}
+use Rattle.rare_term.specs.TrueRewrite.{IsTrueRewrite}
+use Rattle.rare_check.specs.declared.report.Report.{Report}
+use Rattle.rare_check.specs.declared.report.Report.TheVariants.{Checked, Invalid}
+use Rattle.rare_check.specs.declared.report.Verdict.{Verdict}
+use Rattle.rare_check.specs.declared.report.Verdict.TheVariants.{Valid}
+use Rattle.rare_check.specs.TermText.{constants}
+use Rattle.rare_check.specs.ProblemText.{StatedProblem, StatedRewrite}
+use Rattle.rare_check.specs.ProofText.{ProofCommand, proof_from}
+use Rattle.rare_check.specs.Steps.{Equation}
+use Rattle.rare_check.specs.Progress.{Progress}
+use Rattle.rare_check.specs.Verdicts.{Bad, first_bad, concludes, verdict_by, report_by, on_proof}
+
+pub record Checking : Type 0 where
+  pub problem : StatedProblem
+  -- the equations that the steps so far conclude
+  pub earlier : List Equation
+  -- the places of the rewrites that are concluded
+  pub concluded : List ℕ
+  -- the first command that is not valid
+  pub bad : Option Bad
+  -- the bytes that are not yet taken
+  pub left : Stream
+  -- the fault that stands
+  pub stopped : Option Fault
+
+abbrev pub start : StatedProblem → Checking
+start problem = record { problem = problem; earlier = []; concluded = []; bad = None; left = new_stream; stopped = None }
+
+-- the verdicts from place k on, where the rewrites at some places are concluded already
+abbrev pub verdicts_with : List StatedRewrite → List ℕ → List ProofCommand → ℕ → List StatedRewrite → List Verdict
+verdicts_with rewrites concluded commands k [] = []
+verdicts_with rewrites concluded commands k (r ∷ rs) =
+    verdict_by (list_any (nat_eq k) concluded || list_any (concludes rewrites k) commands) ∷ verdicts_with rewrites concluded commands (suc k) rs
+
+abbrev pub bad_after : Option Bad → Option Bad → Option Bad
+bad_after None later = later
+bad_after (Some bad) later = Some bad
+
+-- the report on a proof that has come so far, with these commands behind those before
+abbrev pub report_with : StatedProblem → Progress → List ProofCommand → Report
+report_with problem p commands =
+    report_by (bad_after p.bad (first_bad problem p.earlier commands)) (verdicts_with problem.rewrites p.concluded commands 0 problem.rewrites)
+
+abbrev pub answer_from : StatedProblem → Progress → Commands → Result Report Refusal
+answer_from problem p commands = on_proof (report_with problem p) (proof_from problem.names commands.list commands.fault)
+
+abbrev pub unless_stopped : Option Fault → Result Report Refusal → Result Report Refusal
+unless_stopped None answer = answer
+unless_stopped (Some fault.Memory) answer = answer
+unless_stopped (Some (fault.Refused place reason)) answer = Err (record { place = place; reason = reason })
+
+-- the report or the fault that a checker gives with these bytes behind those before
+abbrev pub answer : Checking → List ℕ → Result Report Refusal
+answer c rest =
+    unless_stopped c.stopped (answer_from c.problem (record { earlier = c.earlier; concluded = c.concluded; bad = c.bad }) (commands_left c.left rest))
+
+-- a fault is the one that is answered; want of memory is free
+abbrev pub Refuses : Fault → Result Report Refusal → Type 0
+Refuses fault.Memory answer = Unit {0}
+Refuses (fault.Refused place reason) answer = answer ≡ Err (record { place = place; reason = reason })
+
+-- each rewrite with the verdict valid is true
+abbrev pub ValidAreTrue : StatedProblem → Report → Type 0
+ValidAreTrue problem (Checked verdicts trusted) =
+    (k : ℕ) (r : StatedRewrite) → slice_get problem.rewrites k ≡ Some r → slice_get verdicts k ≡ Some Valid → IsTrueRewrite (constants problem.names) r.left r.right
+ValidAreTrue problem (Invalid name fault) = Unit {0}

@@ -1,0 +1,14 @@
+-- The words that are printed for the faults of commands.
+use Rattle.std.specs.Prelude.{ℕ, List, codes}
+use Rattle.rare_check.specs.declared.steps.StepFault.{StepFault}
+use Rattle.rare_check.specs.declared.steps.StepFault.TheVariants.{IdUsed, NoSuchStep, PremiseCount, NotEqual, OtherHead, OtherPremise, NoSuchRewrite, OtherEquation}
+
+abbrev pub word_of : StepFault → List ℕ
+word_of IdUsed = codes "IdUsed"
+word_of NoSuchStep = codes "NoSuchStep"
+word_of PremiseCount = codes "PremiseCount"
+word_of NotEqual = codes "NotEqual"
+word_of OtherHead = codes "OtherHead"
+word_of OtherPremise = codes "OtherPremise"
+word_of NoSuchRewrite = codes "NoSuchRewrite"
+word_of OtherEquation = codes "OtherEquation"

@@ -1,0 +1,139 @@
+ghost use Rattle.std.specs.Prelude.{◌≡◌, ◌+◌, ◌-◌, ◌^◌, ◌≤◌, ◌++◌, List, [], ℕ, length, Some, None, IfOk, IfErr, IfSome, OnOk, Ok, Err};
+ghost use Rattle.rare_check.specs.TermText.{constants};
+ghost use Rattle.rare_check.specs.Stated.{stated, HaveIds};
+ghost use Rattle.rare_check.specs.Checking.{start, answer, Refuses, ValidAreTrue};
+
+use crate::checking::take_commands;
+use crate::judged::Judged;
+use crate::problem::Problem;
+use crate::report::Report;
+use crate::reporting::report_of;
+use rare_base::Fault;
+use rare_sexpr::Reader;
+use rare_term::Terms;
+use std::alloc::Global;
+use std::marker::Model;
+
+/// Checks the proof of a problem, which comes in pieces of any size.
+///
+/// Contracts see what it holds: the problem, the equations that the steps so far conclude, which
+/// rewrites are concluded, the first command that is not valid, the bytes that are not yet taken, and
+/// the fault that stands.
+#[derive(Drop)]
+pub struct Checker<T: Terms> {
+    alloc: Global,
+    terms: T,
+    problem: Problem,
+    judged: Judged,
+    reader: Reader,
+    stopped: Option<Fault>,
+}
+
+impl<T: Terms> Model for Checker<T> {
+    ghost use Rattle.rare_check.specs.Checking.{Checking};
+    ghost use Rattle.rare_check.specs.Kept.{checking_of, IsKept};
+    ghost use Rattle.rare_term.specs.contracts.tree.Tree as e;
+    ghost use Rattle.std.specs.Coded.{codes};
+
+    ghost Value = { Checking };
+
+    ghost coded = { Prim.hlevel (codes, e.the_row.coded) };
+
+    ghost view = { λ c. checking_of (T.trees c.terms) c.problem c.judged c.reader c.stopped };
+
+    ghost invariant = { λ c. IsKept (T.trees c.terms) (T.symbols c.terms) c.problem c.judged c.reader };
+}
+
+impl<T: Terms + Drop> Checker<T> {
+    /// A checker that was fed nothing, for a problem that was read into these terms. It takes no memory.
+    pub fn new(alloc: Global, terms: T, problem: Problem) -> Checker<T>
+        requires ids { HaveIds (length (T.trees terms)) problem.rewrites }
+        requires symbols { T.symbols terms ≡ constants problem.scope }
+        ensures { result ≡ start (stated (T.trees terms) problem) }
+    {
+        Checker {
+            alloc,
+            terms,
+            problem,
+            judged: Judged::new(alloc),
+            reader: Reader::new(alloc),
+            stopped: None,
+        }
+    }
+
+    /// Takes the next bytes of the proof's text, which has at most 2^32 - 2 bytes.
+    ///
+    /// A refusal is the first fault of the text, whatever bytes follow. After a refusal or want of
+    /// memory every later call gives the same.
+    pub fn feed(&mut self, bytes: &[u8]) -> Result<(), Fault>
+        requires { self.old.left.fed + length bytes.now ≤ 2 ^ 32 - 2 }
+        ensures ok { OnOk result ((rest : List ℕ) → answer self.new rest ≡ answer self.old (bytes.now ++ rest)) }
+        ensures fed { OnOk result (self.new.left.fed ≡ self.old.left.fed + length bytes.now) }
+        ensures going { OnOk result (self.new.stopped ≡ None) }
+        ensures refused { IfErr result (λ fault. (rest : List ℕ) → Refuses fault (answer self.old (bytes.now ++ rest))) }
+        ensures stands { IfErr result (λ fault. self.new.stopped ≡ Some fault) }
+        ensures again { IfSome self.old.stopped (λ fault. result ≡ Err fault) }
+        ensures problem { self.new.problem ≡ self.old.problem }
+    {
+        if let Some(fault) = self.stopped {
+            return Err(fault);
+        }
+        match self.take(bytes) {
+            Ok(()) => Ok(()),
+            Err(fault) => {
+                self.stopped = Some(fault);
+                Err(fault)
+            }
+        }
+    }
+
+    // Takes the next bytes, where no fault stands yet.
+    fn take(&mut self, bytes: &[u8]) -> Result<(), Fault>
+        requires short { self.old.left.fed + length bytes.now ≤ 2 ^ 32 - 2 }
+        requires going { self.old.stopped ≡ None }
+        ensures ok { OnOk result ((rest : List ℕ) → answer self.new rest ≡ answer self.old (bytes.now ++ rest)) }
+        ensures fed { OnOk result (self.new.left.fed ≡ self.old.left.fed + length bytes.now) }
+        ensures refused { IfErr result (λ fault. (rest : List ℕ) → Refuses fault (answer self.old (bytes.now ++ rest))) }
+        ensures going { self.new.stopped ≡ None }
+        ensures problem { self.new.problem ≡ self.old.problem }
+    {
+        let Ok(()) = self.reader.feed(bytes) else {
+            return Err(Fault::Memory);
+        };
+        take_commands(
+            self.alloc,
+            &mut self.terms,
+            &self.problem,
+            &mut self.judged,
+            &mut self.reader,
+        )
+    }
+
+    /// Tells the end of the proof's text, and gives the report on it. An error is the first fault of
+    /// the text, or want of memory. Where a rewrite has the verdict valid, both its sides have one
+    /// value in every interpretation.
+    pub fn finish(self) -> Result<Report, Fault>
+        ensures report { IfOk result (λ report. answer self [] ≡ Ok report) }
+        ensures refused { IfErr result (λ fault. Refuses fault (answer self [])) }
+        ensures again { IfSome self.stopped (λ fault. result ≡ Err fault) }
+        ensures valid { IfOk result (λ report. ValidAreTrue self.problem report) }
+    {
+        if let Some(fault) = self.stopped {
+            return Err(fault);
+        }
+        let Checker {
+            alloc,
+            mut terms,
+            problem,
+            mut judged,
+            mut reader,
+            stopped: _,
+        } = self;
+        reader.end();
+        take_commands(alloc, &mut terms, &problem, &mut judged, &mut reader)?;
+        match report_of(alloc, &problem, judged) {
+            Ok(report) => Ok(report),
+            Err(_) => Err(Fault::Memory),
+        }
+    }
+}

@@ -1,0 +1,236 @@
+ghost use Rattle.std.specs.Prelude.{◌≡◌, ◌<◌, ◌++◌, ◌∷◌, [], List, ℕ, length, map, All, IfOk, IfSome, IfNone, OnOk, IsTrue, ◌↔◌, Some, None};
+ghost use Rattle.std.specs.Option.{option_map};
+ghost use Rattle.rare_term.specs.declared.tree.Tree.{Tree};
+ghost use Rattle.rare_term.specs.Trees.{tree_at, args_of, head_of};
+ghost use Rattle.rare_term.specs.SameTrees.{tree_eq, head_eq};
+ghost use Rattle.rare_check.specs.CommandsRead.{SidesAreIds, pair_at, stated_step};
+ghost use Rattle.rare_check.specs.Judging.{IsJudged, earlier_of, AreAllIds, pairs_at, unless_same};
+ghost use Rattle.rare_check.specs.Steps.{sides_named, premises_of, differing, have_same_head, pair_eq, pairs_eq, are_joined, conditions, first_failing, step_fault, equation_fault};
+
+use crate::commands::ReadStep;
+use crate::judged::{Judged, Sides, SidesList};
+use crate::steps::{StepFault, StepRule};
+use rare_base::{Text, Texts};
+use rare_term::{Head, TermId, Terms};
+use std::alloc::{AllocError, Global};
+
+#[tactic(auto, using(crate::proofs::Judgements::heads_same))]
+fn same_head(a: Head, b: Head) -> bool
+    ensures { result ≡ head_eq a b }
+{
+    a == b
+}
+
+// Whether two ids are of one term. A reader of terms tells that different ids have different trees.
+fn same_term<T: Terms>(terms: &T, a: TermId, b: TermId) -> bool
+    requires a { a.0 < length (T.trees terms.now) }
+    requires b { b.0 < length (T.trees terms.now) }
+    ensures { result ≡ tree_eq (tree_at (T.trees terms.now) a.0) (tree_at (T.trees terms.now) b.0) }
+{
+    let _head = terms.head(a);
+    a.0 == b.0
+}
+
+fn same_sides<T: Terms>(terms: &T, a: Sides, b: Sides) -> bool
+    requires a { SidesAreIds (length (T.trees terms.now)) a }
+    requires b { SidesAreIds (length (T.trees terms.now)) b }
+    ensures { result ≡ pair_eq (pair_at (T.trees terms.now) a) (pair_at (T.trees terms.now) b) }
+{
+    same_term(terms, a.left, b.left) && same_term(terms, a.right, b.right)
+}
+
+// The sides of the equation with this id.
+fn sides_of_step(judged: &Judged, id: &[u8]) -> Option<Sides>
+    requires { length judged.now.ids ≡ length judged.now.sides }
+    ensures sides { (ts : List Tree) → sides_named (earlier_of ts judged.now) id.now ≡ option_map (pair_at ts) result }
+    ensures ids { (n : ℕ) → AreAllIds n judged.now.sides → IfSome result (SidesAreIds n) }
+{
+    let k = judged.ids.find(id)?;
+    Some(*judged.sides.get(k))
+}
+
+// The sides of all premises, or none where one is no earlier step.
+fn sides_of_premises(
+    alloc: Global,
+    judged: &Judged,
+    premises: &[Text],
+) -> Result<Option<SidesList>, AllocError>
+    requires { length judged.now.ids ≡ length judged.now.sides }
+    ensures found { IfOk result (λ found. (ts : List Tree) → premises_of (earlier_of ts judged.now) premises.now ≡ option_map (pairs_at ts) found) }
+    ensures ids { IfOk result (λ found. (n : ℕ) → AreAllIds n judged.now.sides → IfSome found (AreAllIds n)) }
+{
+    let mut found = SidesList::new(alloc);
+    for id in premises {
+        match sides_of_step(judged, id.bytes()) {
+            Some(sides) => found.push(sides)?,
+            None => return Ok(None),
+        }
+    }
+    Ok(Some(found))
+}
+
+// Appends a pair, unless both its terms are one.
+fn push_differing<T: Terms>(terms: &T, pairs: &mut SidesList, pair: Sides) -> Result<(), AllocError>
+    requires ids { AreAllIds (length (T.trees terms.now)) pairs.old }
+    requires pair { SidesAreIds (length (T.trees terms.now)) pair }
+    ensures pairs { OnOk result (pairs_at (T.trees terms.now) pairs.new ≡ pairs_at (T.trees terms.now) pairs.old ++ unless_same (pair_at (T.trees terms.now) pair)) }
+    ensures ids { OnOk result (AreAllIds (length (T.trees terms.now)) pairs.new) }
+{
+    if same_term(terms, pair.left, pair.right) {
+        return Ok(());
+    }
+    pairs.push(pair)
+}
+
+// The pairs of arguments that differ, in order, of two terms with as many arguments.
+fn differing_args<T: Terms>(alloc: Global, terms: &T, sides: Sides) -> Result<SidesList, AllocError>
+    requires ids { SidesAreIds (length (T.trees terms.now)) sides }
+    requires same { length (args_of (tree_at (T.trees terms.now) sides.left.0)) ≡ length (args_of (tree_at (T.trees terms.now) sides.right.0)) }
+    ensures pairs { IfOk result (λ pairs. pairs_at (T.trees terms.now) pairs ≡ differing (args_of (tree_at (T.trees terms.now) sides.left.0)) (args_of (tree_at (T.trees terms.now) sides.right.0))) }
+    ensures ids { IfOk result (λ pairs. AreAllIds (length (T.trees terms.now)) pairs) }
+{
+    let mut pairs = SidesList::new(alloc);
+    for k in 0..terms.arg_count(sides.left) {
+        let left = terms.arg(sides.left, k);
+        let right = terms.arg(sides.right, k);
+        push_differing(terms, &mut pairs, Sides { left, right })?;
+    }
+    Ok(pairs)
+}
+
+// Whether two lists are of the same pairs of terms.
+fn are_same_pairs<T: Terms>(terms: &T, a: &[Sides], b: &[Sides]) -> bool
+    requires a { AreAllIds (length (T.trees terms.now)) a.now }
+    requires b { AreAllIds (length (T.trees terms.now)) b.now }
+    ensures { result ≡ pairs_eq (pairs_at (T.trees terms.now) a.now) (pairs_at (T.trees terms.now) b.now) }
+{
+    if a.len() != b.len() {
+        return false;
+    }
+    for k in 0..a.len() {
+        if !same_sides(terms, a[k], b[k]) {
+            return false;
+        }
+    }
+    true
+}
+
+// Whether two terms have one operator and as many arguments.
+fn are_same_shape<T: Terms>(terms: &T, sides: Sides) -> bool
+    requires { SidesAreIds (length (T.trees terms.now)) sides }
+    ensures { result ≡ have_same_head (tree_at (T.trees terms.now) sides.left.0) (tree_at (T.trees terms.now) sides.right.0) }
+{
+    same_head(terms.head(sides.left), terms.head(sides.right))
+        && terms.arg_count(sides.left) == terms.arg_count(sides.right)
+}
+
+fn refl_fault<T: Terms>(terms: &T, sides: Sides, premises: &[Sides]) -> Option<StepFault>
+    requires sides { SidesAreIds (length (T.trees terms.now)) sides }
+    ensures { result ≡ first_failing (conditions StepRule.Refl (tree_at (T.trees terms.now) sides.left.0) (tree_at (T.trees terms.now) sides.right.0) (pairs_at (T.trees terms.now) premises.now)) }
+{
+    if !premises.is_empty() {
+        return Some(StepFault::PremiseCount);
+    }
+    if !same_term(terms, sides.left, sides.right) {
+        return Some(StepFault::NotEqual);
+    }
+    None
+}
+
+fn cong_fault<T: Terms>(
+    alloc: Global,
+    terms: &T,
+    sides: Sides,
+    premises: &[Sides],
+) -> Result<Option<StepFault>, AllocError>
+    requires sides { SidesAreIds (length (T.trees terms.now)) sides }
+    requires premises { AreAllIds (length (T.trees terms.now)) premises.now }
+    ensures { IfOk result (λ fault. fault ≡ first_failing (conditions StepRule.Cong (tree_at (T.trees terms.now) sides.left.0) (tree_at (T.trees terms.now) sides.right.0) (pairs_at (T.trees terms.now) premises.now))) }
+{
+    if !are_same_shape(terms, sides) {
+        return Ok(Some(StepFault::OtherHead));
+    }
+    let pairs = differing_args(alloc, terms, sides)?;
+    if premises.len() != pairs.len() {
+        return Ok(Some(StepFault::PremiseCount));
+    }
+    if !are_same_pairs(terms, premises, pairs.items()) {
+        return Ok(Some(StepFault::OtherPremise));
+    }
+    Ok(None)
+}
+
+fn trans_fault<T: Terms>(terms: &T, sides: Sides, premises: &[Sides]) -> Option<StepFault>
+    requires sides { SidesAreIds (length (T.trees terms.now)) sides }
+    requires premises { AreAllIds (length (T.trees terms.now)) premises.now }
+    ensures { result ≡ first_failing (conditions StepRule.Trans (tree_at (T.trees terms.now) sides.left.0) (tree_at (T.trees terms.now) sides.right.0) (pairs_at (T.trees terms.now) premises.now)) }
+{
+    let [first, second] = premises else {
+        return Some(StepFault::PremiseCount);
+    };
+    if same_term(terms, first.left, sides.left)
+        && same_term(terms, first.right, second.left)
+        && same_term(terms, second.right, sides.right)
+    {
+        None
+    } else {
+        Some(StepFault::OtherPremise)
+    }
+}
+
+fn fault_by_rule<T: Terms>(
+    alloc: Global,
+    terms: &T,
+    rule: StepRule,
+    sides: Sides,
+    premises: &[Sides],
+) -> Result<Option<StepFault>, AllocError>
+    requires sides { SidesAreIds (length (T.trees terms.now)) sides }
+    requires premises { AreAllIds (length (T.trees terms.now)) premises.now }
+    ensures { IfOk result (λ fault. fault ≡ first_failing (conditions rule (tree_at (T.trees terms.now) sides.left.0) (tree_at (T.trees terms.now) sides.right.0) (pairs_at (T.trees terms.now) premises.now))) }
+{
+    match rule {
+        StepRule::Refl => Ok(refl_fault(terms, sides, premises)),
+        StepRule::Cong => cong_fault(alloc, terms, sides, premises),
+        StepRule::Trans => Ok(trans_fault(terms, sides, premises)),
+    }
+}
+
+/// The first condition of a step that fails after the steps before it, if one does.
+pub fn fault_of_step<T: Terms>(
+    alloc: Global,
+    terms: &T,
+    judged: &Judged,
+    step: &ReadStep,
+) -> Result<Option<StepFault>, AllocError>
+    requires judged { IsJudged (length (T.trees terms.now)) judged.now }
+    requires sides { SidesAreIds (length (T.trees terms.now)) step.now.sides }
+    ensures { IfOk result (λ fault. fault ≡ step_fault (earlier_of (T.trees terms.now) judged.now) (stated_step (T.trees terms.now) step.now)) }
+{
+    if judged.ids.contains(step.id.bytes()) {
+        return Ok(Some(StepFault::IdUsed));
+    }
+    match sides_of_premises(alloc, judged, step.premises.items())? {
+        None => Ok(Some(StepFault::NoSuchStep)),
+        Some(premises) => fault_by_rule(alloc, terms, step.rule, step.sides, premises.items()),
+    }
+}
+
+/// The first condition of a conclusion that fails after the steps before it, by the sides of the
+/// rewrite that it names.
+pub fn fault_of_conclusion<T: Terms>(
+    terms: &T,
+    judged: &Judged,
+    rewrite: Sides,
+    id: &[u8],
+) -> Option<StepFault>
+    requires judged { IsJudged (length (T.trees terms.now)) judged.now }
+    requires rewrite { SidesAreIds (length (T.trees terms.now)) rewrite }
+    ensures { result ≡ equation_fault (Some (pair_at (T.trees terms.now) rewrite)) (sides_named (earlier_of (T.trees terms.now) judged.now) id.now) }
+{
+    match sides_of_step(judged, id) {
+        None => Some(StepFault::NoSuchStep),
+        Some(step) if same_sides(terms, step, rewrite) => None,
+        Some(_) => Some(StepFault::OtherEquation),
+    }
+}

@@ -1,0 +1,105 @@
+ghost use Rattle.std.specs.Prelude.{◌≡◌, None, length, OnOk, OnErr};
+ghost use Rattle.rare_check.specs.CommandsRead.{CommandHasIds, SidesAreIds, command_at, stated_step};
+ghost use Rattle.rare_check.specs.Judging.{IsJudged};
+ghost use Rattle.rare_check.specs.ProofText.{Step, Conclude};
+ghost use Rattle.rare_check.specs.Progress.{progress, progress_of};
+ghost use Rattle.rare_check.specs.Stated.{stated, HaveIds};
+
+use crate::commands::{ReadCommand, ReadStep};
+use crate::faults::{fault_of_conclusion, fault_of_step};
+use crate::judged::{BadCommand, Judged, Sides};
+use crate::problem::Problem;
+use crate::steps::StepFault;
+use rare_base::Text;
+use rare_term::Terms;
+use std::alloc::{AllocError, Global};
+
+// A step after those before it, none of which is bad.
+fn judge_step<T: Terms>(
+    alloc: Global,
+    terms: &T,
+    problem: &Problem,
+    judged: &mut Judged,
+    step: ReadStep,
+) -> Result<(), AllocError>
+    requires judged { IsJudged (length (T.trees terms.now)) judged.old }
+    requires good { judged.old.bad ≡ None }
+    requires sides { SidesAreIds (length (T.trees terms.now)) step.sides }
+    ensures ok { OnOk result (progress_of (T.trees terms.now) judged.new ≡ progress (stated (T.trees terms.now) problem.now) (progress_of (T.trees terms.now) judged.old) (Step (stated_step (T.trees terms.now) step))) }
+    ensures err { OnErr result (progress_of (T.trees terms.now) judged.new ≡ progress_of (T.trees terms.now) judged.old) }
+    ensures kept { IsJudged (length (T.trees terms.now)) judged.new }
+{
+    match fault_of_step(alloc, terms, judged, &step)? {
+        Some(fault) => {
+            judged.bad = Some(BadCommand {
+                name: step.id,
+                fault,
+            });
+            Ok(())
+        }
+        None => {
+            judged.add(step.id.bytes(), step.sides)?;
+            Ok(())
+        }
+    }
+}
+
+// A conclusion after the steps before it, none of which is bad.
+fn judge_conclusion<T: Terms>(
+    terms: &T,
+    problem: &Problem,
+    judged: &mut Judged,
+    name: Text,
+    id: &[u8],
+) -> Result<(), AllocError>
+    requires judged { IsJudged (length (T.trees terms.now)) judged.old }
+    requires good { judged.old.bad ≡ None }
+    requires rewrites { HaveIds (length (T.trees terms.now)) problem.now.rewrites }
+    ensures ok { OnOk result (progress_of (T.trees terms.now) judged.new ≡ progress (stated (T.trees terms.now) problem.now) (progress_of (T.trees terms.now) judged.old) (Conclude name id.now)) }
+    ensures err { OnErr result (progress_of (T.trees terms.now) judged.new ≡ progress_of (T.trees terms.now) judged.old) }
+    ensures kept { IsJudged (length (T.trees terms.now)) judged.new }
+{
+    let Some(k) = problem.find(name.bytes()) else {
+        let fault = StepFault::NoSuchRewrite;
+        judged.bad = Some(BadCommand { name, fault });
+        return Ok(());
+    };
+    let rewrite = problem.rewrites.get(k);
+    let sides = Sides {
+        left: rewrite.left,
+        right: rewrite.right,
+    };
+    if let Some(fault) = fault_of_conclusion(terms, judged, sides, id) {
+        judged.bad = Some(BadCommand { name, fault });
+        return Ok(());
+    }
+    judged.concluded.insert(k)?;
+    Ok(())
+}
+
+/// Judges one command more of a proof. Behind a command that is not valid nothing counts. Where memory
+/// is wanting, nothing changes.
+pub fn judge<T: Terms>(
+    alloc: Global,
+    terms: &T,
+    problem: &Problem,
+    judged: &mut Judged,
+    command: ReadCommand,
+) -> Result<(), AllocError>
+    requires judged { IsJudged (length (T.trees terms.now)) judged.old }
+    requires command { CommandHasIds (length (T.trees terms.now)) command }
+    requires rewrites { HaveIds (length (T.trees terms.now)) problem.now.rewrites }
+    ensures ok { OnOk result (progress_of (T.trees terms.now) judged.new ≡ progress (stated (T.trees terms.now) problem.now) (progress_of (T.trees terms.now) judged.old) (command_at (T.trees terms.now) command)) }
+    ensures err { OnErr result (progress_of (T.trees terms.now) judged.new ≡ progress_of (T.trees terms.now) judged.old) }
+    ensures kept { IsJudged (length (T.trees terms.now)) judged.new }
+{
+    if judged.bad.is_some() {
+        return Ok(());
+    }
+    match command {
+        ReadCommand::Step(step) => judge_step(alloc, terms, problem, judged, step),
+        ReadCommand::Conclude { name, id } => {
+            judge_conclusion(terms, problem, judged, name, id.bytes())
+        }
+    }
+}
