@@ -1,0 +1,95 @@
+-- What the parts of a run say of the whole.
+use Rattle.std.proofs.lemmas.List.{length-replicate}
+use Rattle.std.proofs.Common.{◌≡◌, ◌≢◌, ℕ, ◌+◌, [], ◌∷◌, map, replicate, IfSome, IsErrOf, arith, ◌^◌, ◌<◌, List, length, Option, Some, None, Result, Ok, Err, refl, sym, ◌∙◌, ap, subst, inl, inr}
+use Rattle.rare_base.specs.declared.answers.Status.TheVariants as status
+use Rattle.rare_base.specs.Outside.{Rose}
+use Rattle.rare_base.specs.declared.outside.ReadError.{ReadError}
+use Rattle.rare_base.specs.declared.outside.ReadError.TheVariants as read
+use Rattle.rare_base.specs.declared.answers.Fault.{Fault}
+use Rattle.rare_base.specs.declared.answers.Fault.TheVariants as fault
+use Rattle.rare_check.specs.Checking.{Checking, start, answer, Refuses, ValidAreTrue}
+use Rattle.rare_check.specs.declared.problem.Rewrite.{Rewrite}
+use Rattle.rare_check.specs.declared.problem.Problem.{Problem}
+use Rattle.rare_check.specs.Stated.{stated, stated_rewrite}
+use Rattle.rare_check.proofs.Starting.{answer_start}
+use Rattle.rare_check.specs.Verdicts.{checked}
+use Rattle.rare_check.specs.declared.report.Report.{Report}
+use Rattle.rare_check.specs.ProblemText.{StatedProblem}
+use Rattle.rare_term.specs.declared.tree.Tree.{Tree}
+use Rattle.rare_cli.specs.declared.outcome.File.{File}
+use Rattle.rare_cli.specs.declared.outcome.File.TheVariants as file
+use Rattle.rare_cli.specs.declared.outcome.Stop.{Stop}
+use Rattle.rare_cli.specs.declared.outcome.Stop.TheVariants.{BadWords, ReadFault, TooLong, Refused, Memory}
+use Rattle.rare_cli.specs.declared.outcome.Answer.{Answer}
+use Rattle.rare_cli.specs.WordForms.{Names, form_of}
+use Rattle.rare_cli.specs.Outcomes.{Outcome, stop_outcome, report_lines, report_text, report_status, report_outcome}
+use Rattle.rare_cli.specs.Causes.{Files, IsQuiet, Tells, IsLong, Allowed, bad_words, stopped, answered}
+use Rattle.rare_cli.specs.Prepared.{answer_outcome, Becomes, IsTextOf, IsReportOn, IsChecked, outcome_in, stop_of_read, stop_of_fault}
+
+-- a text under a name, whether it is told or not
+some_long : (told : Option (List ℕ)) (n : ℕ) → IfSome told (λ all. n < length all) → (text : List ℕ) × Tells told text × (n < length text)
+some_long None n long = (replicate (n + 1) 0, tt, omega (arith, length-replicate {A = ℕ} (n + 1) 0))
+some_long (Some all) n long = (all, refl, long)
+
+is_long : (told : Option (List ℕ)) → IfSome told (λ all. 2 ^ 28 < length all) → IsLong told
+is_long told long = let t = some_long told (2 ^ 28) long in record { text = t.0; held = t.1; long = t.2 }
+
+-- a file that can't be read whole
+pub unread : (files : Files) (name : List ℕ) (f : File) (e : ReadError) (stop : Stop) → stop ≡ stop_of_read f e →
+    (IsErrOf {T = List ℕ} (Err e) read.Failed → Rose (files.before name) (files.after name)) →
+    (IsErrOf {T = List ℕ} (Err e) read.TooLong → IfSome (files.told name) (λ all. 2 ^ 28 < length all)) →
+    (◌≢◌ {A = Result (List ℕ) ReadError} (Err e) (Err read.Failed) → IsQuiet files) → IsTextOf files name f (Err stop)
+unread files name f e stop is failed long quiet = let P : Stop → Type 0 = λ s. IsTextOf files name f (Err s) in subst P (sym is) (by e failed long quiet)
+  where
+    by : (e : ReadError) → (IsErrOf {T = List ℕ} (Err e) read.Failed → Rose (files.before name) (files.after name)) →
+        (IsErrOf {T = List ℕ} (Err e) read.TooLong → IfSome (files.told name) (λ all. 2 ^ 28 < length all)) →
+        (◌≢◌ {A = Result (List ℕ) ReadError} (Err e) (Err read.Failed) → IsQuiet files) → IsTextOf files name f (Err (stop_of_read f e))
+    by read.Failed failed long quiet = (refl, failed refl)
+    by read.TooLong failed long quiet = (refl, quiet (λ x. cc), is_long _ (long refl))
+    by read.Memory failed long quiet = tt
+
+-- the faults of a proof
+pub faulty : (p : StatedProblem) (proof : List ℕ) (x : Fault) (stop : Stop) → stop ≡ stop_of_fault file.Proof x → Refuses x (checked p proof) → IsReportOn p proof (Err stop)
+faulty p proof x stop is refuses = let P : Stop → Type 0 = λ s. IsReportOn p proof (Err s) in subst P (sym is) (by x refuses)
+  where
+    by : (x : Fault) → Refuses x (checked p proof) → IsReportOn p proof (Err (stop_of_fault file.Proof x))
+    by (fault.Refused place reason) refuses = (refl, refuses)
+    by fault.Memory refuses = tt
+
+pub report_started : (c : Checking) (p : StatedProblem) (proof : List ℕ) (report : Report) → c ≡ start p → answer c proof ≡ Ok report → ValidAreTrue c.problem report →
+    (checked p proof ≡ Ok report) × ValidAreTrue p report
+report_started c p proof report new is valid =
+    let P : Checking → Type 0 = λ c. ValidAreTrue c.problem report in
+    (sym (ap (λ c. answer c proof) new ∙ answer_start p proof) ∙ is, subst P new valid)
+
+-- what is written of a problem speaks of the names of its rewrites alone
+names_stated : (ts : List Tree) (rewrites : List Rewrite) → map (λ r. r.name) (map (stated_rewrite ts) rewrites) ≡ map (λ r. r.name) rewrites
+names_stated ts [] = refl
+names_stated ts (r ∷ rs) = ap (λ names. r.name ∷ names) (names_stated ts rs)
+
+pub answer_of_report : (ts : List Tree) (p : Problem) (names : List (List ℕ)) (a : Answer) (report : Report) → names ≡ map (λ r. r.name) p.rewrites →
+    a.text ≡ report_lines names report → a.status ≡ report_status report → answer_outcome a ≡ report_outcome (stated ts p) report
+answer_of_report ts p names a report e text status =
+    let full : a.text ≡ report_text (stated ts p) report = text ∙ ap (λ names. report_lines names report) (e ∙ sym (names_stated ts p.rewrites)) in
+    λ i. record { text = full i; status = status i }
+
+-- what is checked is allowed
+pub checked_allowed : (files : Files) (words : List (List ℕ)) (names : Names) (result : Result Answer Stop) → form_of words ≡ Some names →
+    IsChecked files names result → Allowed files words (outcome_in result)
+checked_allowed files words names (Ok a) form h = answered names form h.0 h.1 h.2 h.3
+checked_allowed files words names (Err stop) form h = stopped names form stop h refl
+
+-- want of memory may come in place of a line
+memory_instead : (files : Files) (words : List (List ℕ)) (stop : Stop) (o : Outcome) → (stop_outcome stop).status ≡ status.BadText → Allowed files words (stop_outcome stop) → o ≡ stop_outcome Memory →
+    Allowed files words o
+memory_instead files words stop o bad (bad_words none is) e = absurd (let s : status.BadText ≡ status.BadWords = sym bad ∙ ap (λ x. x.status) is in cc)
+memory_instead files words stop o bad (stopped names form other cause is) e = stopped names form Memory tt e
+memory_instead files words stop o bad (answered names form p report holds is) e = stopped names form Memory tt e
+
+pub becomes_allowed : (files : Files) (words : List (List ℕ)) (stop : Stop) (o : Outcome) → Allowed files words (stop_outcome stop) → Becomes stop o → Allowed files words o
+becomes_allowed files words BadWords o a e = let P : Outcome → Type 0 = λ o. Allowed files words o in subst P (sym e) a
+becomes_allowed files words (ReadFault f) o a e = let P : Outcome → Type 0 = λ o. Allowed files words o in subst P (sym e) a
+becomes_allowed files words (TooLong f) o a e = let P : Outcome → Type 0 = λ o. Allowed files words o in subst P (sym e) a
+becomes_allowed files words Memory o a e = let P : Outcome → Type 0 = λ o. Allowed files words o in subst P (sym e) a
+becomes_allowed files words (Refused f place reason) o a (inl e) = let P : Outcome → Type 0 = λ o. Allowed files words o in subst P (sym e) a
+becomes_allowed files words (Refused f place reason) o a (inr e) = memory_instead files words (Refused f place reason) o refl a e

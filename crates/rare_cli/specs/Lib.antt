@@ -1,0 +1,4 @@
+pub mod WordForms
+pub mod Outcomes
+pub mod Causes
+pub mod Prepared

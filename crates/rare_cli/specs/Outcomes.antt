@@ -1,0 +1,102 @@
+-- What a run writes, and with which status.
+use Rattle.std.specs.Prelude.{ℕ, ◌^◌, Bool, true, false, nat_lt, List, [], ◌∷◌, ◌++◌, length, codes, decimal, Result, Ok, Err, if◌then◌else◌}
+use Rattle.std.specs.List.{flat_map, list_all, zip}
+use Rattle.rare_base.specs.declared.answers.Status.{Status}
+use Rattle.rare_base.specs.declared.answers.Status.TheVariants as status
+use Rattle.rare_base.specs.Answers.{Refusal}
+use Rattle.rare_base.specs.Answers as base
+use Rattle.rare_sexpr.specs.Written.{written_symbol}
+use Rattle.rare_check.specs.declared.report.Report.{Report}
+use Rattle.rare_check.specs.declared.report.Report.TheVariants.{Checked, Invalid}
+use Rattle.rare_check.specs.declared.report.Verdict.{Verdict}
+use Rattle.rare_check.specs.declared.report.Verdict.TheVariants.{Valid, Missing}
+use Rattle.rare_check.specs.declared.steps.StepFault.{StepFault}
+use Rattle.rare_check.specs.Words.{word_of}
+use Rattle.rare_check.specs.ProblemText.{StatedProblem, rewrite_names, problem_of}
+use Rattle.rare_check.specs.Verdicts.{checked}
+use Rattle.rare_cli.specs.declared.outcome.File.{File}
+use Rattle.rare_cli.specs.declared.outcome.File.TheVariants.{Problem, Proof}
+use Rattle.rare_cli.specs.declared.outcome.Stop.{Stop}
+use Rattle.rare_cli.specs.declared.outcome.Stop.TheVariants.{BadWords, ReadFault, TooLong, Refused, Memory}
+
+-- what is written, and the status
+pub record Outcome : Type 0 where
+  pub text : List ℕ
+  pub status : Status
+
+abbrev pub line : List ℕ → List ℕ
+line text = text ++ 10 ∷ []
+
+abbrev pub file_word : File → List ℕ
+file_word Problem = codes "problem"
+file_word Proof = codes "proof"
+
+-- ---- a run that comes to no report
+
+abbrev pub stop_text : Stop → List ℕ
+stop_text BadWords = codes "usage: rare check RULES PROBLEM PROOF | prove [--depth=N] [--budget=N] RULES PROBLEM | rules | types RULES | gen N"
+stop_text (ReadFault file) = codes "read fault " ++ file_word file
+stop_text (TooLong file) = codes "too long " ++ file_word file
+stop_text (Refused file place reason) =
+    codes "refused " ++ file_word file ++ codes " " ++ decimal place.line ++ codes ":" ++ decimal place.column ++ codes " " ++ base.word_of reason
+stop_text Memory = codes "out of memory"
+
+abbrev pub stop_status : Stop → Status
+stop_status BadWords = status.BadWords
+stop_status (ReadFault file) = status.ReadFault
+stop_status (TooLong file) = status.TooLong
+stop_status (Refused file place reason) = status.BadText
+stop_status Memory = status.Memory
+
+abbrev pub stop_line : Stop → List ℕ
+stop_line stop = line (stop_text stop)
+
+abbrev pub stop_outcome : Stop → Outcome
+stop_outcome stop = record { text = stop_line stop; status = stop_status stop }
+
+-- ---- a report
+
+abbrev pub verdict_text : Verdict → List ℕ
+verdict_text Valid = codes " valid"
+verdict_text Missing = codes " open"
+
+abbrev pub is_valid : Verdict → Bool
+is_valid Valid = true
+is_valid Missing = false
+
+-- the line of a rewrite, by its name and the verdict on it
+abbrev pub rewrite_line : List ℕ × Verdict → List ℕ
+rewrite_line r = line (written_symbol r.0 ++ verdict_text r.1)
+
+-- the line of a command that is not valid, by its name and the condition that fails
+abbrev pub invalid_line : List ℕ → StepFault → List ℕ
+invalid_line name fault = line (codes "invalid " ++ written_symbol name ++ codes " " ++ word_of fault)
+
+-- the lines of a report, over the names of the rewrites
+abbrev pub report_lines : List (List ℕ) → Report → List ℕ
+report_lines names (Checked verdicts trusted) = flat_map rewrite_line (zip names verdicts)
+report_lines names (Invalid name fault) = invalid_line name fault
+
+abbrev pub report_text : StatedProblem → Report → List ℕ
+report_text p report = report_lines (rewrite_names p) report
+
+abbrev pub report_status : Report → Status
+report_status (Checked verdicts trusted) = if list_all is_valid verdicts then status.AllGood else status.NotAll
+report_status (Invalid name fault) = status.NotAll
+
+abbrev pub report_outcome : StatedProblem → Report → Outcome
+report_outcome p report = record { text = report_text p report; status = report_status report }
+
+-- ---- the outcome of the texts of a problem and a proof: the first refusal, or else the report
+
+abbrev pub unless_long : File → List ℕ → Outcome → Outcome
+unless_long file text rest = if nat_lt (2 ^ 28) (length text) then stop_outcome (TooLong file) else rest
+
+abbrev pub unless_refused : {A : Type 0} → File → Result A Refusal → (A → Outcome) → Outcome
+unless_refused file (Ok x) rest = rest x
+unless_refused file (Err r) rest = stop_outcome (Refused file r.place r.reason)
+
+abbrev pub outcome_of : List ℕ → List ℕ → Outcome
+outcome_of problem proof =
+    unless_long Problem problem (unless_refused Problem (problem_of problem) (λ p.
+    unless_long Proof proof (unless_refused Proof (checked p proof) (report_outcome p))))

@@ -1,0 +1,85 @@
+-- What the parts of a run give to the next.
+use Rattle.std.specs.Prelude.{◌≡◌, ℕ, ◌^◌, ◌≤◌, ◌⊎◌, List, length, Result, Ok, Err}
+use Rattle.rare_base.specs.declared.outside.ReadError.{ReadError}
+use Rattle.rare_base.specs.declared.outside.ReadError.TheVariants as read
+use Rattle.rare_base.specs.declared.answers.Fault.{Fault}
+use Rattle.rare_base.specs.declared.answers.Fault.TheVariants as fault
+use Rattle.rare_base.specs.Outside.{Rose}
+use Rattle.rare_check.specs.declared.report.Report.{Report}
+use Rattle.rare_term.specs.declared.tree.Tree.{Tree}
+use Rattle.rare_check.specs.declared.problem.Problem.{Problem}
+use Rattle.rare_check.specs.Stated.{stated}
+use Rattle.rare_check.specs.ProblemText.{StatedProblem, problem_of}
+use Rattle.rare_check.specs.Verdicts.{checked}
+use Rattle.rare_check.specs.Checking.{ValidAreTrue}
+use Rattle.rare_cli.specs.WordForms.{Names}
+use Rattle.rare_cli.specs.Outcomes.{Outcome, stop_outcome, report_outcome}
+use Rattle.rare_cli.specs.Causes.{Files, IsQuiet, Tells, IsLong, ReadsAs, HasCause, IsReport}
+use Rattle.rare_cli.specs.declared.outcome.File.{File}
+use Rattle.rare_cli.specs.declared.outcome.File.TheVariants as file
+use Rattle.rare_cli.specs.declared.outcome.Stop.{Stop}
+use Rattle.rare_cli.specs.declared.outcome.Stop.TheVariants.{BadWords, ReadFault, TooLong, Refused, Memory}
+use Rattle.rare_cli.specs.declared.outcome.Answer.{Answer}
+
+abbrev pub stop_of_read : File → ReadError → Stop
+stop_of_read file read.Failed = ReadFault file
+stop_of_read file read.TooLong = TooLong file
+stop_of_read file read.Memory = Memory
+
+abbrev pub stop_of_fault : File → Fault → Stop
+stop_of_fault file (fault.Refused place reason) = Refused file place reason
+stop_of_fault file fault.Memory = Memory
+
+abbrev pub answer_outcome : Answer → Outcome
+answer_outcome a = record { text = a.text; status = a.status }
+
+-- the outcome that is meant
+abbrev pub outcome_in : Result Answer Stop → Outcome
+outcome_in (Ok a) = answer_outcome a
+outcome_in (Err stop) = stop_outcome stop
+
+-- what is written where a run stops: a line that must be made may want memory
+abbrev pub Becomes : Stop → Outcome → Type 0
+Becomes (Refused file place reason) o = (o ≡ stop_outcome (Refused file place reason)) ⊎ (o ≡ stop_outcome Memory)
+Becomes BadWords o = o ≡ stop_outcome BadWords
+Becomes (ReadFault file) o = o ≡ stop_outcome (ReadFault file)
+Becomes (TooLong file) o = o ≡ stop_outcome (TooLong file)
+Becomes Memory o = o ≡ stop_outcome Memory
+
+-- the text of a file, or why it can't be read
+abbrev pub IsTextOf : Files → List ℕ → File → Result (List ℕ) Stop → Type 0
+IsTextOf files name file (Ok text) = IsQuiet files × Tells (files.told name) text × (length text ≤ 2 ^ 28)
+IsTextOf files name file (Err BadWords) = ⊥
+IsTextOf files name file (Err (ReadFault other)) = (other ≡ file) × Rose (files.before name) (files.after name)
+IsTextOf files name file (Err (TooLong other)) = (other ≡ file) × IsQuiet files × IsLong (files.told name)
+IsTextOf files name file (Err (Refused other place reason)) = ⊥
+IsTextOf files name file (Err Memory) = Unit {0}
+
+-- the problem of a file, by the trees of its terms, or why there is none
+abbrev pub IsProblemOf : Files → List ℕ → List Tree → Result Problem Stop → Type 0
+IsProblemOf files name ts (Ok p) = IsQuiet files × ReadsAs (files.told name) problem_of (Ok (stated ts p))
+IsProblemOf files name ts (Err BadWords) = ⊥
+IsProblemOf files name ts (Err (ReadFault other)) = (other ≡ file.Problem) × Rose (files.before name) (files.after name)
+IsProblemOf files name ts (Err (TooLong other)) = (other ≡ file.Problem) × IsQuiet files × IsLong (files.told name)
+IsProblemOf files name ts (Err (Refused other place reason)) =
+    (other ≡ file.Problem) × IsQuiet files × ReadsAs (files.told name) problem_of (Err (record { place = place; reason = reason }))
+IsProblemOf files name ts (Err Memory) = Unit {0}
+
+-- the report on a proof of a problem, or why there is none
+abbrev pub IsReportOn : StatedProblem → List ℕ → Result Report Stop → Type 0
+IsReportOn p proof (Ok report) = (checked p proof ≡ Ok report) × ValidAreTrue p report
+IsReportOn p proof (Err BadWords) = ⊥
+IsReportOn p proof (Err (ReadFault other)) = ⊥
+IsReportOn p proof (Err (TooLong other)) = ⊥
+IsReportOn p proof (Err (Refused other place reason)) = (other ≡ file.Proof) × (checked p proof ≡ Err (record { place = place; reason = reason }))
+IsReportOn p proof (Err Memory) = Unit {0}
+
+-- the answer on a proof of a problem, or why there is none
+abbrev pub IsJudged : StatedProblem → List ℕ → Result Answer Stop → Type 0
+IsJudged p proof (Ok a) = (report : Report) × IsReportOn p proof (Ok report) × (answer_outcome a ≡ report_outcome p report)
+IsJudged p proof (Err stop) = IsReportOn p proof (Err stop)
+
+-- the answer over these files, or why there is none
+abbrev pub IsChecked : Files → Names → Result Answer Stop → Type 0
+IsChecked files names (Ok a) = (p : StatedProblem) × (report : Report) × IsReport files names p report × (answer_outcome a ≡ report_outcome p report)
+IsChecked files names (Err stop) = HasCause files names stop

@@ -1,0 +1,251 @@
+ghost use Rattle.std.specs.Prelude.{◌≡◌, [], ◌∷◌, ◌++◌, map, option_map, OnOk, IfOk};
+ghost use Rattle.std.specs.List.{flat_map, list_all, zip};
+ghost use Rattle.rare_cli.specs.WordForms.{form_of, is_file};
+ghost use Rattle.rare_cli.specs.Outcomes.{file_word, stop_line, verdict_text, is_valid, rewrite_line, invalid_line, report_lines, report_status};
+ghost use Rattle.rare_cli.specs.Prepared.{stop_of_read, stop_of_fault};
+
+use rare_base::{Fault, Place, ReadError, Reason, Status, Text, Texts};
+use rare_check::{Report, Rewrite, StepFault, Verdict};
+use rare_sexpr::write_symbol;
+use std::alloc::{AllocError, Global};
+
+/// A file of the words.
+#[derive(Clone, Copy, Debug, PartialEq, Eq)]
+pub enum File {
+    Problem,
+    Proof,
+}
+
+/// Why a run comes to no report.
+#[derive(Clone, Copy, Debug, PartialEq, Eq)]
+pub enum Stop {
+    /// The words are no form.
+    BadWords,
+    /// A read of the file failed.
+    ReadFault(File),
+    /// The file has more than 2^28 bytes.
+    TooLong(File),
+    /// The file has no reading: the place and the reason of its first fault.
+    Refused {
+        file: File,
+        place: Place,
+        reason: Reason,
+    },
+    /// Want of memory.
+    Memory,
+}
+
+impl From<AllocError> for Stop {
+    ghost use Rattle.std.specs.Prelude.{◌≡◌};
+    ghost use Rattle.rare_cli.specs.declared.outcome.Stop.TheVariants.{Memory};
+
+    ghost from_gives = { λ _ s. s ≡ Memory };
+
+    fn from(_: AllocError) -> Stop {
+        Stop::Memory
+    }
+}
+
+impl Stop {
+    /// Why a file can't be read whole.
+    pub fn of_read(file: File, error: ReadError) -> Stop
+        ensures { result ≡ stop_of_read file error }
+    {
+        match error {
+            ReadError::Failed => Stop::ReadFault(file),
+            ReadError::TooLong => Stop::TooLong(file),
+            ReadError::Memory => Stop::Memory,
+        }
+    }
+
+    /// Why a file's text has no reading.
+    pub fn of_fault(file: File, fault: Fault) -> Stop
+        ensures { result ≡ stop_of_fault file fault }
+    {
+        match fault {
+            Fault::Refused { place, reason } => Stop::Refused {
+                file,
+                place,
+                reason,
+            },
+            Fault::Memory => Stop::Memory,
+        }
+    }
+}
+
+/// What is written of a proof that was read, and the status.
+#[derive(Drop)]
+pub struct Answer {
+    pub text: Text,
+    pub status: Status,
+}
+
+/// The names of the files, where the words are a form.
+#[derive(Clone, Copy)]
+pub struct FileNames<'a> {
+    pub problem: &'a [u8],
+    pub proof: &'a [u8],
+}
+
+fn is_file_name(word: &[u8]) -> bool
+    ensures { result ≡ is_file word.now }
+{
+    !word.starts_with(b"--")
+}
+
+/// The names of the problem and the proof, where the words are `check - PROBLEM PROOF`.
+pub fn form(words: &[Text]) -> Option<FileNames<'_>>
+    ensures { form_of words.now ≡ option_map (λ r. record { problem = r.problem.now; proof = r.proof.now }) result }
+{
+    match words {
+        [command, rules, problem, proof] => {
+            if command.bytes() == b"check".as_slice()
+                && rules.bytes() == b"-".as_slice()
+                && is_file_name(problem.bytes())
+                && is_file_name(proof.bytes())
+            {
+                Some(FileNames {
+                    problem: problem.bytes(),
+                    proof: proof.bytes(),
+                })
+            } else {
+                None
+            }
+        }
+        _ => None,
+    }
+}
+
+/// The usage line.
+pub fn usage() -> &'static [u8]
+    ensures { result.now ≡ stop_line Stop.BadWords }
+{
+    b"usage: rare check RULES PROBLEM PROOF | prove [--depth=N] [--budget=N] RULES PROBLEM | rules | types RULES | gen N\n"
+}
+
+/// The line for a file that can't be read.
+pub fn read_fault(file: File) -> &'static [u8]
+    ensures { result.now ≡ stop_line (Stop.ReadFault file) }
+{
+    match file {
+        File::Problem => b"read fault problem\n",
+        File::Proof => b"read fault proof\n",
+    }
+}
+
+/// The line for a file that is too long.
+pub fn too_long(file: File) -> &'static [u8]
+    ensures { result.now ≡ stop_line (Stop.TooLong file) }
+{
+    match file {
+        File::Problem => b"too long problem\n",
+        File::Proof => b"too long proof\n",
+    }
+}
+
+/// The line for want of memory.
+pub fn out_of_memory() -> &'static [u8]
+    ensures { result.now ≡ stop_line Stop.Memory }
+{
+    b"out of memory\n"
+}
+
+fn file_name(file: File) -> &'static str
+    ensures { result.now ≡ file_word file }
+{
+    match file {
+        File::Problem => "problem",
+        File::Proof => "proof",
+    }
+}
+
+/// The line for a file that has no reading.
+pub fn refused(alloc: Global, file: File, place: Place, reason: Reason) -> Result<Text, AllocError>
+    ensures { IfOk result (λ t. t ≡ stop_line (Stop.Refused file place reason)) }
+{
+    let name = file_name(file);
+    let Place { line, column } = place;
+    let word = reason.word();
+    let message = format!(in alloc; "refused {name} {line}:{column} {word}\n")?;
+    Text::of(alloc, message.as_bytes())
+}
+
+/// The names of the rewrites.
+pub fn names_of(alloc: Global, rewrites: &[Rewrite]) -> Result<Texts, AllocError>
+    ensures { IfOk result (λ names. names ≡ map (λ r. r.name) rewrites.now) }
+{
+    let mut names = Texts::new(alloc);
+    for rewrite in rewrites {
+        names.push(rewrite.name.copy(alloc)?)?;
+    }
+    Ok(names)
+}
+
+fn word_of_verdict(verdict: Verdict) -> &'static [u8]
+    ensures { result.now ≡ verdict_text verdict ++ 10 ∷ [] }
+{
+    match verdict {
+        Verdict::Valid => b" valid\n",
+        Verdict::Missing => b" open\n",
+    }
+}
+
+fn write_rewrite(out: &mut Text, name: &[u8], verdict: Verdict) -> Result<(), AllocError>
+    ensures { OnOk result (out.new ≡ out.old ++ rewrite_line (name.now, verdict)) }
+{
+    write_symbol(out, name)?;
+    out.append(word_of_verdict(verdict))
+}
+
+fn write_verdicts(out: &mut Text, names: &[Text], verdicts: &[Verdict]) -> Result<(), AllocError>
+    ensures { OnOk result (out.new ≡ out.old ++ flat_map rewrite_line (zip names.now verdicts.now)) }
+{
+    for (name, verdict) in names.iter().zip(verdicts) {
+        write_rewrite(out, name.bytes(), *verdict)?;
+    }
+    Ok(())
+}
+
+fn write_invalid(out: &mut Text, name: &[u8], fault: StepFault) -> Result<(), AllocError>
+    ensures { OnOk result (out.new ≡ out.old ++ invalid_line name.now fault) }
+{
+    out.append(b"invalid ")?;
+    write_symbol(out, name)?;
+    out.push(b' ')?;
+    out.append(fault.word().as_bytes())?;
+    out.push(b'\n')
+}
+
+fn are_valid(verdicts: &[Verdict]) -> bool
+    ensures { result ≡ list_all is_valid verdicts.now }
+{
+    verdicts
+        .iter()
+        .all(|verdict| matches!(verdict, Verdict::Valid))
+}
+
+/// What is written of a report, over the names of the rewrites, and its status.
+pub fn answer_on(alloc: Global, names: &[Text], report: &Report) -> Result<Answer, AllocError>
+    ensures text { IfOk result (λ a. a.text ≡ report_lines names.now report.now) }
+    ensures status { IfOk result (λ a. a.status ≡ report_status report.now) }
+{
+    let mut text = Text::new(alloc);
+    match report {
+        Report::Checked { verdicts, .. } => {
+            write_verdicts(&mut text, names, verdicts.items())?;
+            let status = if are_valid(verdicts.items()) {
+                Status::AllGood
+            } else {
+                Status::NotAll
+            };
+            Ok(Answer { text, status })
+        }
+        Report::Invalid { name, fault } => {
+            write_invalid(&mut text, name.bytes(), *fault)?;
+            Ok(Answer {
+                text,
+                status: Status::NotAll,
+            })
+        }
+    }
+}

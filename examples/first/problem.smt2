@@ -1,0 +1,1 @@
+(declare-const p Bool)(rewrite r1 p p)
