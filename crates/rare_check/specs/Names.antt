@@ -1,7 +1,6 @@
 -- Which names a text may declare (SMT-LIB 2.6, sections on symbols and reserved words).
-use Rattle.std.specs.Prelude.{ℕ, Bool, false, not, ◌||◌, ◌&&◌, nat_eq, List, [], ◌∷◌, map, bytes_eq}
+use Rattle.std.specs.Prelude.{ℕ, Bool, false, not, ◌||◌, ◌&&◌, nat_eq, List, [], ◌∷◌, map, codes, bytes_eq}
 use Rattle.std.specs.List.{list_any}
-use Rattle.rare_check.specs.declared.names.TheConstants.{TABLE_WORDS, RESERVED_WORDS}
 
 -- whether a name is one of these
 abbrev pub is_among : List (List ℕ) → List ℕ → Bool
@@ -9,10 +8,16 @@ is_among names name = list_any (bytes_eq name) names
 
 -- the words of the theories and of sorts
 abbrev pub table_words : List (List ℕ)
-table_words = map (λ word. word.now) TABLE_WORDS
+table_words = map codes (
+    "true" ∷ "false" ∷ "not" ∷ "=>" ∷ "xor" ∷ "and" ∷ "or" ∷ "=" ∷ "distinct" ∷ "ite" ∷ "-" ∷ "+" ∷ "*" ∷ "div" ∷
+    "mod" ∷ "abs" ∷ "<=" ∷ "<" ∷ ">=" ∷ ">" ∷ "select" ∷ "store" ∷ "bvnot" ∷ "bvneg" ∷ "bvadd" ∷ "bvmul" ∷ "bvand" ∷
+    "bvor" ∷ "bvxor" ∷ "bvsub" ∷ "bvudiv" ∷ "bvurem" ∷ "bvsdiv" ∷ "bvsrem" ∷ "bvsmod" ∷ "bvshl" ∷ "bvlshr" ∷
+    "bvashr" ∷ "bvnand" ∷ "bvnor" ∷ "bvxnor" ∷ "bvult" ∷ "bvule" ∷ "bvugt" ∷ "bvuge" ∷ "bvslt" ∷ "bvsle" ∷ "bvsgt" ∷
+    "bvsge" ∷ "bvcomp" ∷ "concat" ∷ "Bool" ∷ "Int" ∷ "Array" ∷ "BitVec" ∷ "bv" ∷ [])
 
 abbrev pub reserved_words : List (List ℕ)
-reserved_words = map (λ word. word.now) RESERVED_WORDS
+reserved_words = map codes (
+    "_" ∷ "!" ∷ "as" ∷ "let" ∷ "exists" ∷ "forall" ∷ "match" ∷ "par" ∷ [])
 
 -- @ and .
 abbrev pub begins_reserved : List ℕ → Bool

@@ -69,6 +69,7 @@ impl<T: Terms + Drop> Checker<T> {
         requires { self.old.left.fed + length bytes.now ≤ 2 ^ 32 - 2 }
         ensures ok { OnOk result ((rest : List ℕ) → answer self.new rest ≡ answer self.old (bytes.now ++ rest)) }
         ensures fed { OnOk result (self.new.left.fed ≡ self.old.left.fed + length bytes.now) }
+        ensures at_most { self.new.left.fed ≤ self.old.left.fed + length bytes.now }
         ensures going { OnOk result (self.new.stopped ≡ None) }
         ensures refused { IfErr result (λ fault. (rest : List ℕ) → Refuses fault (answer self.old (bytes.now ++ rest))) }
         ensures stands { IfErr result (λ fault. self.new.stopped ≡ Some fault) }
@@ -93,6 +94,7 @@ impl<T: Terms + Drop> Checker<T> {
         requires going { self.old.stopped ≡ None }
         ensures ok { OnOk result ((rest : List ℕ) → answer self.new rest ≡ answer self.old (bytes.now ++ rest)) }
         ensures fed { OnOk result (self.new.left.fed ≡ self.old.left.fed + length bytes.now) }
+        ensures at_most { self.new.left.fed ≤ self.old.left.fed + length bytes.now }
         ensures refused { IfErr result (λ fault. (rest : List ℕ) → Refuses fault (answer self.old (bytes.now ++ rest))) }
         ensures going { self.new.stopped ≡ None }
         ensures problem { self.new.problem ≡ self.old.problem }

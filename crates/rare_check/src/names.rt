@@ -1,8 +1,8 @@
 ghost use Rattle.std.specs.Prelude.{◌≡◌, map, bytes_eq};
 ghost use Rattle.rare_check.specs.Names.{is_among, is_reserved, is_table_word};
 
-/// The words of the theories and of sorts, which no text may declare (SMT-LIB 2.6, theories Core,
-/// Ints, ArraysEx and FixedSizeBitVectors, logic QF_BV).
+/// The words of the theories and of sorts, and `bv`, which begins literals: no text may declare them
+/// (SMT-LIB 2.6, theories Core, Ints, ArraysEx and FixedSizeBitVectors, logic QF_BV).
 pub const TABLE_WORDS: [&str; 56] = [
     "true", "false", "not", "=>", "xor", "and", "or", "=", "distinct", "ite", "-", "+", "*", "div",
     "mod", "abs", "<=", "<", ">=", ">", "select", "store", "bvnot", "bvneg", "bvadd", "bvmul",

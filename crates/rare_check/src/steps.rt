@@ -19,13 +19,14 @@ pub enum StepFault {
     IdUsed,
     /// No earlier step has the id of a premise, or the id that a conclusion names.
     NoSuchStep,
-    /// The rule takes another number of premises.
+    /// The rule takes another number of premises: none for reflexivity, one for each argument that
+    /// differs for congruence, two for transitivity.
     PremiseCount,
-    /// The sides of a step by reflexivity are two terms.
+    /// The sides of a step by reflexivity are not one term.
     NotEqual,
-    /// The sides of a step by congruence have two operators or numbers of arguments.
+    /// The sides of a step by congruence differ in their operators or numbers of arguments.
     OtherHead,
-    /// The premises are not the equations that the rule needs.
+    /// The premises are not the equations that the rule needs, in order.
     OtherPremise,
     /// No rewrite has the name that a conclusion gives.
     NoSuchRewrite,

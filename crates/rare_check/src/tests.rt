@@ -41,7 +41,7 @@ fn show_report(alloc: Global, report: &Report) -> Result<Text, AllocError> {
     Ok(out)
 }
 
-// The report on a proof that is fed in two pieces. A refusal of a piece has to stand at the end.
+// The report on a proof that is fed in two pieces. A refusal of a piece has to stand to the end.
 fn check_pieces<T: Terms + Drop>(
     alloc: Global,
     terms: T,
@@ -54,9 +54,8 @@ fn check_pieces<T: Terms + Drop>(
     requires short { length front.now + length back.now ≤ 100000 }
 {
     let mut checker = Checker::new(alloc, terms, problem);
-    if checker.feed(front).is_ok() {
-        let _ = checker.feed(back);
-    }
+    let _ = checker.feed(front);
+    let _ = checker.feed(back);
     checker.finish()
 }
 
