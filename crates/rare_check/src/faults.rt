@@ -21,7 +21,8 @@ fn same_head(a: Head, b: Head) -> bool
     a == b
 }
 
-// Whether two ids are of one term. A reader of terms tells that different ids have different trees.
+// Whether two ids are of one term. `head` is called for its contract, by which different ids have
+// different trees.
 fn same_term<T: Terms>(terms: &T, a: TermId, b: TermId) -> bool
     requires a { a.0 < length (T.trees terms.now) }
     requires b { b.0 < length (T.trees terms.now) }
