@@ -61,7 +61,7 @@ impl Linear {
         }
     }
 
-    /// The name with coefficient 1.
+    /// The name with coefficient 1, unless memory is wanting.
     pub fn name(alloc: Global, name: u32) -> Result<Linear, AllocError>
         ensures { IfOk result (λ l. l ≡ linear (pos 0) ((name, pos 1) ∷ [])) }
     {

@@ -85,7 +85,7 @@ fn symbol_value(entries: &[SymbolValue], symbol: u32, args: &[bool]) -> bool
 
 /// Whether the term is true under an interpretation of the declared symbols (SMT-LIB 2.6, theory
 /// Core). A symbol has the values that its entries give, of two for the same arguments the first,
-/// and elsewhere it is false.
+/// and elsewhere it is false. Where memory is wanting, it gives no answer.
 pub fn truth_under(
     alloc: Global,
     symbols: &[Signature],

@@ -10,6 +10,15 @@ use rare_list::Sequence;
 use std::alloc::{AllocError, Global};
 use std::marker::Model;
 
+/// The most arguments of a term.
+const MOST_ARGS: usize = 256;
+
+/// The deepest nesting of a term. A symbol counts as 1.
+const DEEPEST: usize = 2000;
+
+/// The most nodes of a term, counted with repeats.
+const MOST_NODES: usize = 1048576;
+
 /// A term by the ids of its arguments, with its nesting and its size.
 #[derive(Drop)]
 pub struct Node {
@@ -168,18 +177,18 @@ fn measured(
     ensures refusal { Refuses (refusal_by symbols.now head (length args.now) (1 + deepest (nestings nodes.now args.now)) (1 + sum (sizes nodes.now args.now))) result }
     ensures not_memory { result ≢ Err TermError.Memory }
 {
-    if args.len() > 256 {
+    if args.len() > MOST_ARGS {
         return Err(TermError::TooManyArgs);
     }
     if !takes_args(symbols, head, args.len()) {
         return Err(TermError::IllSorted);
     }
     let nesting = 1 + deepest_of(nodes, args);
-    if nesting > 2000 {
+    if nesting > DEEPEST {
         return Err(TermError::TooDeep);
     }
     let size = 1 + size_of(nodes, args);
-    if size > 1048576 {
+    if size > MOST_NODES {
         return Err(TermError::TooLarge);
     }
     Ok(Measure { nesting, size })

@@ -34,7 +34,7 @@ pub trait Terms {
     ghost symbols: { Self → List Signature };
 
     /// Declares a symbol by the sorts of its arguments and of its applications, and gives its
-    /// number, the next from 0.
+    /// number, the next from 0. Where memory is wanting, the symbols stay.
     fn declare_symbol(&mut self, args: &[Sort], gives: &Sort) -> Result<u32, AllocError>
         requires { length (symbols self.old) < 2 ^ 32 - 1 }
         ensures number { IfOk result (λ k. k ≡ length (symbols self.old)) }
@@ -66,7 +66,8 @@ pub trait Terms {
         ensures { result.now ≡ sort_of (symbols self.now) (tree_at (trees self.now) id.0) };
 
     /// The id of the term with this operator and these arguments, or the first refusal that
-    /// applies, in the order of `TermError`. A refusal leaves the terms as they were.
+    /// applies, in the order of `TermError`. The ids, and the symbol if the operator is one, are of
+    /// these terms. A refusal leaves the terms as they were.
     fn make(&mut self, head: Head, args: &[TermId]) -> Result<TermId, TermError>
         requires ids { AreIds (length (trees self.old)) args.now }
         requires symbol { HasSymbol (length (symbols self.old)) head }

@@ -13,7 +13,7 @@ pub enum Sort {
 pub type Sorts = Sequence<Sort>;
 
 impl Sort {
-    /// An equal sort.
+    /// An equal sort, unless memory is wanting.
     pub fn copy(&self, _alloc: Global) -> Result<Sort, AllocError>
         ensures { IfOk result (λ s. s ≡ self.now) }
     {
@@ -64,7 +64,7 @@ pub struct Tree {
 pub type Trees = Sequence<Tree>;
 
 impl Tree {
-    /// An equal tree.
+    /// An equal tree, unless memory is wanting.
     pub fn copy(&self, alloc: Global) -> Result<Tree, AllocError>
         ensures { IfOk result (λ t. t ≡ self.now) }
     {

@@ -1,3 +1,4 @@
+-- Widths, and the bit vectors of a width as numbers.
 use Rattle.std.specs.Prelude.{ℕ, ◌^◌, ◌<◌, ◌≤◌}
 
 -- a width from 1 to 128, and the number of a bit vector of that width
