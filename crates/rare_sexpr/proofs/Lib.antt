@@ -11,3 +11,4 @@ pub mod Spelling
 pub mod Items
 pub mod Readings
 pub mod Deep
+pub mod Texts

@@ -1,15 +1,14 @@
 -- What a parser makes of the bytes that follow, step by step.
-use Rattle.std.proofs.Common.{◌≡◌, ℕ, suc, ◌+◌, ◌≤◌, Bool, true, ◌&&◌, ◌==◌, List, [], ◌∷◌, ◌++◌, length, drop, reverse, Option, None, Result, Ok, Err, IfOk, refl, ap, sym, ◌∙◌, subst, arith}
+use Rattle.std.proofs.Common.{◌≡◌, ℕ, ◌+◌, ◌≤◌, Bool, true, List, [], ◌∷◌, ◌++◌, length, drop, reverse, Option, None, Result, Ok, Err, IfOk, refl, ap, sym, ◌∙◌, subst, arith}
 use Rattle.std.proofs.lemmas.List.{drop_all}
-use Rattle.std.proofs.lemmas.Bool.Decides.{nat_tests}
 use Rattle.std.specs.declared.alloc.AllocError.{AllocError}
 use Rattle.rare_base.specs.declared.answers.Place.{Place}
 use Rattle.rare_sexpr.specs.declared.tree.Kind.{Kind}
 use Rattle.rare_sexpr.specs.declared.tree.Sexpr.{Sexpr}
 use Rattle.rare_sexpr.specs.declared.bytes.Class.{Class}
-use Rattle.rare_sexpr.specs.declared.bytes.Class.TheVariants.{Blank, LineEnd, Open, Close, Semicolon, Colon, Digit, Letter, Other}
+use Rattle.rare_sexpr.specs.declared.bytes.Class.TheVariants.{Blank, LineEnd, Open, Close, Semicolon, Colon, Digit, Letter, Quote, Other}
 use Rattle.rare_sexpr.specs.declared.parser.Mode.{Mode}
-use Rattle.rare_sexpr.specs.declared.parser.Mode.TheVariants.{Between, Comment, Colon as Behind_colon, Atom}
+use Rattle.rare_sexpr.specs.declared.parser.Mode.TheVariants.{Between, Atom}
 use Rattle.rare_sexpr.specs.declared.parser.OpenList.{OpenList}
 use Rattle.rare_sexpr.specs.declared.parser.Parser.{Parser}
 use Rattle.rare_sexpr.specs.declared.parser.Move.{Move}
@@ -19,7 +18,7 @@ use Rattle.rare_sexpr.specs.declared.parser.Found.TheVariants as found
 use Rattle.rare_sexpr.specs.Bytes.{class, after}
 use Rattle.rare_sexpr.specs.Tokens.{Token, closes, on_byte, begins, tokens}
 use Rattle.rare_sexpr.specs.Commands.{put_first, list_of, atom_of, added, commands, commands_from}
-use Rattle.rare_sexpr.specs.Parsing.{follow, is_between, is_idle, holds_atom, IsAdded, IsMove, LeavesByte, Finds, Ends}
+use Rattle.rare_sexpr.specs.Parsing.{follow, holds_atom, IsAdded, IsMove, LeavesByte, Finds, Ends}
 use Rattle.rare_sexpr.proofs.Stacks.{reverse_last, append_none}
 
 -- a `)` in an open list
@@ -42,6 +41,7 @@ behind LineEnd lists q k text b p next not_c not_d not_l not_o = refl
 behind Open lists q k text b p next not_c not_d not_l not_o = refl
 behind Close lists q k text b p next not_c not_d not_l not_o = refl
 behind Semicolon lists q k text b p next not_c not_d not_l not_o = refl
+behind Quote lists q k text b p next not_c not_d not_l not_o = refl
 behind Colon lists q k text b p next not_c not_d not_l not_o = absurd (not_c refl)
 behind Digit lists q k text b p next not_c not_d not_l not_o = absurd (not_d refl)
 behind Letter lists q k text b p next not_c not_d not_l not_o = absurd (not_l refl)
@@ -133,17 +133,3 @@ is_added old e e' r r' new p q h =
     let P : Sexpr → Type 0 = λ x. IsAdded old x r new in
     let Q : Option Sexpr → Type 0 = λ o. IsAdded old e' o new in
     subst Q q (subst P p h)
-
-not_empty : (n : ℕ) → (suc n == 0) ≡ true → ⊥
-not_empty n is = grind (arith, nat_tests)
-
--- between words on the outermost level a parser is as a new one
-idle_mode : (m : Mode) (lists : List OpenList) → (is_between m && (length lists == 0)) ≡ true → (p : Place) (bytes : List ℕ) → commands (reverse lists) (tokens m p bytes) ≡ commands_from p bytes
-idle_mode Between [] is p bytes = refl
-idle_mode Between (o ∷ lists) is p bytes = absurd (not_empty (length lists) is)
-idle_mode Comment lists is p bytes = cc
-idle_mode (Behind_colon q) lists is p bytes = cc
-idle_mode (Atom q k text) lists is p bytes = cc
-
-pub follow_idle : (r : Parser) → is_idle r ≡ true → (bytes : List ℕ) → commands_from r.place bytes ≡ follow r bytes
-follow_idle r is bytes = sym (idle_mode r.mode r.lists is r.place bytes)

@@ -1,22 +1,19 @@
 -- What a reader's fields give when a command is found.
-use Rattle.std.proofs.Common.{◌≡◌, ℕ, zero, suc, ◌+◌, ◌-◌, ◌<◌, Bool, true, false, ◌&&◌, ◌==◌, List, [], ◌++◌, length, drop, take, None, refl, ap, sym, ◌∙◌, subst, arith}
+use Rattle.std.proofs.Common.{◌≡◌, ℕ, zero, suc, ◌+◌, ◌-◌, ◌<◌, true, false, List, [], ◌++◌, length, drop, take, None, refl, ap, sym, ◌∙◌, subst, arith}
 use Rattle.std.specs.Option.{option_map}
 use Rattle.std.proofs.lemmas.List.{drop-drop, length-drop, take_rest}
 use Rattle.rare_base.specs.declared.answers.Place.{Place}
 use Rattle.rare_base.specs.declared.answers.Reason.{Reason}
 use Rattle.rare_sexpr.specs.declared.tree.Sexpr.{Sexpr}
-use Rattle.rare_sexpr.specs.declared.parser.Mode.{Mode}
-use Rattle.rare_sexpr.specs.declared.parser.Mode.TheVariants.{Between, Comment, Colon, Atom}
 use Rattle.rare_sexpr.specs.declared.parser.Found.{Found}
 use Rattle.rare_sexpr.specs.declared.parser.Found.TheVariants.{Command, NeedMore}
 use Rattle.rare_sexpr.specs.declared.parser.Parser.{Parser}
 use Rattle.rare_sexpr.specs.declared.reader.Reader.TheInside.{Inside}
 use Rattle.rare_sexpr.specs.Commands.{put_first, head_of, commands_from}
-use Rattle.rare_sexpr.specs.Parsing.{follow, is_between, is_idle, holds_atom, HasCommand, GoesOn, Finds}
+use Rattle.rare_sexpr.specs.Parsing.{follow, holds_atom, HasCommand, GoesOn, Finds}
 use Rattle.rare_sexpr.specs.Streams.{Stream, unless_refused, commands_left}
 use Rattle.rare_sexpr.specs.Kept.{refusal_of, stream_of, IsKept}
 use Rattle.rare_sexpr.specs.Answered.{IsFirst, IsFinished, IsRefused, IsUndecided}
-use Rattle.rare_sexpr.proofs.Parsers.{follow_idle}
 use Rattle.rare_sexpr.proofs.Depths.{first_shallow}
 use Rattle.rare_sexpr.proofs.Waiting.{follow_makes, follow_bare}
 
@@ -77,41 +74,6 @@ goes_on_undecided r old bytes parser i none is at h =
       begun = (m.0, m.1, ap head_of (left m.0) ∙ m.2);
       unfinished = (b.0, ap head_of (left b.0) ∙ b.1);
     }
-
-no_atom : (m : Mode) (b : Bool) → (is_between m && b) ≡ true → holds_atom m ≡ true → ⊥
-no_atom Between b is h = different (sym h)
-no_atom Comment b is h = different (sym is)
-no_atom (Colon p) b is h = different (sym is)
-no_atom (Atom p k text) b is h = different (sym is)
-
--- all bytes are taken where they are blanks and ended comments
-abbrev pub all_taken : Inside → ℕ → Parser → Inside
-all_taken r n parser = record r { start = n; seen = n; place = parser.place; parser = parser }
-
-kept_idle : (r : Inside) (bytes : List ℕ) (parser : Parser) (n : ℕ) → IsKept r → bytes ≡ drop r.seen r.bytes.items → n ≡ length r.bytes.items →
-    GoesOn r.parser bytes r.ended parser → is_idle parser ≡ true → IsKept (all_taken r n parser)
-kept_idle r bytes parser n i at end h idle =
-    let len : length bytes ≡ length r.bytes.items - r.seen = ap length at ∙ length-drop r.seen r.bytes.items in
-    record {
-      start = omega arith;
-      seen = omega arith;
-      atom = λ a. absurd (no_atom parser.mode (length parser.lists == 0) idle a);
-      fed = i.fed;
-      line = omega (arith, h.line, i.parser_line, i.seen);
-      column = omega (arith, h.column, i.parser_column, i.seen);
-      parser_line = omega (arith, h.line, i.parser_line, i.seen);
-      parser_column = omega (arith, h.column, i.parser_column, i.seen);
-      same = λ more. follow_idle parser idle (drop n r.bytes.items ++ more);
-    }
-
-pub found_idle : (r : Inside) (given : List ℕ) (from : Parser) (f : Found) (parser : Parser) (n : ℕ) → IsKept r →
-    given ≡ r.bytes.items → from ≡ r.parser → f ≡ NeedMore → n ≡ length r.bytes.items → is_idle parser ≡ true →
-    Finds from (take (length given - r.seen) (drop r.seen given)) r.ended f parser → IsKept (all_taken r n parser)
-found_idle r given from f parser n i whole same found end idle h =
-    let bytes = take (length given - r.seen) (drop r.seen given) in
-    let P : Found → Type 0 = λ x. Finds from bytes r.ended x parser in
-    let Q : Parser → Type 0 = λ x. GoesOn x bytes r.ended parser in
-    kept_idle r bytes parser n i (take_rest given r.seen ∙ ap (drop r.seen) whole) end (subst Q same (subst P found h)) idle
 
 pub found_undecided : (r : Inside) (old : Stream) (given : List ℕ) (from : Parser) (f : Found) (parser : Parser) → IsKept r → r.refusal ≡ None → stream_of r ≡ old →
     given ≡ r.bytes.items → from ≡ r.parser → f ≡ NeedMore → Finds from (take (length given - r.seen) (drop r.seen given)) r.ended f parser → IsUndecided old

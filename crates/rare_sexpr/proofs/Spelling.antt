@@ -4,7 +4,7 @@ use Rattle.rare_base.specs.declared.answers.Place.{Place}
 use Rattle.rare_sexpr.specs.declared.tree.Kind.{Kind}
 use Rattle.rare_sexpr.specs.declared.tree.Kind.TheVariants as kind
 use Rattle.rare_sexpr.specs.declared.bytes.Class.{Class}
-use Rattle.rare_sexpr.specs.declared.bytes.Class.TheVariants.{Blank, LineEnd, Open, Close, Semicolon, Colon, Digit, Letter, Other}
+use Rattle.rare_sexpr.specs.declared.bytes.Class.TheVariants.{Blank, LineEnd, Open, Close, Semicolon, Colon, Digit, Letter, Quote, Other}
 use Rattle.rare_sexpr.specs.declared.parser.Mode.{Mode}
 use Rattle.rare_sexpr.specs.declared.parser.Mode.TheVariants as mode
 use Rattle.rare_sexpr.specs.Bytes.{class, after}
@@ -24,6 +24,7 @@ blank_begins Semicolon b p next is = cc
 blank_begins Colon b p next is = cc
 blank_begins Digit b p next is = cc
 blank_begins Letter b p next is = cc
+blank_begins Quote b p next is = cc
 blank_begins Other b p next is = cc
 
 first_true : (a b : Bool) → (a && b) ≡ true → a ≡ true
@@ -73,6 +74,7 @@ atom_ended LineEnd q k front b p next is = refl
 atom_ended Open q k front b p next is = refl
 atom_ended Close q k front b p next is = refl
 atom_ended Semicolon q k front b p next is = refl
+atom_ended Quote q k front b p next is = refl
 atom_ended Colon q k front b p next is = cc
 atom_ended Digit q k front b p next is = cc
 atom_ended Letter q k front b p next is = cc
@@ -104,6 +106,7 @@ symbol_begins Close b p next is = cc
 symbol_begins Semicolon b p next is = cc
 symbol_begins Colon b p next is = cc
 symbol_begins Digit b p next is = cc
+symbol_begins Quote b p next is = cc
 symbol_begins Other b p next is = cc
 
 no_list_symbol : kind.Symbol ≡ kind.List → ⊥

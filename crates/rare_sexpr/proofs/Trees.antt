@@ -1,4 +1,4 @@
--- The laws of `go_down`, and induction on trees.
+-- The law of `go_down`.
 use Rattle.std.proofs.Common.{◌≡◌, ◌∷◌, map, refl, ap, sym, ◌∙◌}
 use Rattle.rare_sexpr.specs.Tree.{Step, go_down, go_along, items_of, text_of, kind_of, place_of}
 use Rattle.rare_sexpr.specs.declared.tree.Sexpr.{Sexpr, Sexpr', Row_of-Sexpr, end_of-Sexpr, more_of-Sexpr, items-the_row-Sexpr, items_shown-the_row-Sexpr-0}

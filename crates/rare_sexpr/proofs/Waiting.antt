@@ -46,7 +46,7 @@ bare : (lists : List OpenList) (m : Mode) (p : Place) → (more : List ℕ) × (
 bare [] Between p = ([], refl)
 bare [] Comment p = ([], refl)
 bare [] (Colon q) p = ([], refl)
-bare [] (Atom q k text) p = (34 ∷ [], refl)
+bare [] (Atom q k text) p = (58 ∷ [], refl)
 bare (o ∷ lists) Between p = ([], refl)
 bare (o ∷ lists) Comment p = ([], refl)
 bare (o ∷ lists) (Colon q) p = ([], refl)

@@ -5,7 +5,7 @@ use Rattle.rare_base.specs.declared.answers.Place.{Place}
 use Rattle.rare_sexpr.specs.declared.tree.Kind.{Kind}
 use Rattle.rare_sexpr.specs.declared.tree.Kind.TheVariants as kind
 use Rattle.rare_sexpr.specs.declared.bytes.Class.{Class}
-use Rattle.rare_sexpr.specs.declared.bytes.Class.TheVariants.{Blank, LineEnd, Open, Close, Semicolon, Colon, Digit, Letter, Other}
+use Rattle.rare_sexpr.specs.declared.bytes.Class.TheVariants.{Blank, LineEnd, Open, Close, Semicolon, Colon, Digit, Letter, Quote, Other}
 use Rattle.rare_sexpr.specs.declared.parser.Mode.{Mode}
 use Rattle.rare_sexpr.specs.declared.parser.Mode.TheVariants as mode
 use Rattle.rare_sexpr.specs.Bytes.{class, after}
@@ -197,6 +197,7 @@ begin_first Semicolon b bytes p is ih =
 begin_first Colon b bytes p is ih = keyword_first b p bytes (tokens (mode.Colon p) (after b p) bytes) is (ih (mode.Colon p))
 begin_first Letter b bytes p is ih = symbol_first b p bytes (tokens (mode.Atom p kind.Symbol (b ∷ [])) (after b p) bytes) is (ih (mode.Atom p kind.Symbol (b ∷ [])))
 begin_first Digit b bytes p is ih = wrong_word [] b bytes none refl (ap begins_word is) refl
+begin_first Quote b bytes p is ih = wrong_word [] b bytes none refl (ap begins_word is) refl
 begin_first Other b bytes p is ih = wrong_word [] b bytes none refl (ap begins_word is) refl
 
 comment_more : (b : ℕ) (p : Place) (bytes : List ℕ) (ts : List Token) → ends_comment (class b) ≡ false → InComment (after b p) bytes ts → InComment p (b ∷ bytes) ts

@@ -11,7 +11,7 @@ use Rattle.rare_sexpr.specs.Tree.{depth}
 use Rattle.rare_sexpr.specs.Commands.{put_first, no_commands, head_of}
 use Rattle.rare_sexpr.specs.Streams.{Stream, commands_left}
 
--- the first of the commands that are left, in which at most 5,000 lists stand in one another
+-- the first of the commands that are left, of depth at most 5,001 (an atom and an empty list have depth 1)
 pub record IsFirst (old : Stream) (e : Sexpr) (new : Stream) : Type 0 where
   pub rest : (more : List ℕ) → (old.ended ≡ true → more ≡ []) → commands_left old more ≡ put_first e (commands_left new more)
   pub kept : (new.fed ≡ old.fed) × (new.ended ≡ old.ended) × (new.refusal ≡ None) × (length new.rest < length old.rest)

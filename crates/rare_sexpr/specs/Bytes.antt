@@ -1,8 +1,9 @@
--- The bytes of a text, and their places.
+-- The bytes of a text, and their places
+-- (SMT-LIB 2.6, sections on the lexicon and on s-expressions).
 use Rattle.std.specs.Prelude.{ℕ, ◌+◌, Bool, ◌&&◌, ◌||◌, nat_eq, nat_le, if◌then◌else◌}
 use Rattle.rare_base.specs.declared.answers.Place.{Place}
 use Rattle.rare_sexpr.specs.declared.bytes.Class.{Class}
-use Rattle.rare_sexpr.specs.declared.bytes.Class.TheVariants.{Blank, LineEnd, Open, Close, Semicolon, Colon, Digit, Letter, Other}
+use Rattle.rare_sexpr.specs.declared.bytes.Class.TheVariants.{Blank, LineEnd, Open, Close, Semicolon, Colon, Digit, Letter, Quote, Other}
 
 abbrev pub is_between : ℕ → ℕ → ℕ → Bool
 is_between low high b = nat_le low b && nat_le b high
@@ -28,6 +29,7 @@ class b =
     else if is_between 97 122 b || is_between 65 90 b then Letter
     else if is_mark b then Letter
     else if is_sign b then Letter
+    else if nat_eq b 34 || nat_eq b 124 then Quote
     else Other
 
 -- the place behind a byte at this place

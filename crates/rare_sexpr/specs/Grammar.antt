@@ -1,4 +1,5 @@
--- Which bytes spell an expression.
+-- Which bytes spell an expression
+-- (SMT-LIB 2.6, sections on the lexicon and on s-expressions).
 use Rattle.std.specs.Prelude.{◌≡◌, ℕ, ◌+◌, ◌≤◌, max, Bool, true, false, not, List, [], ◌∷◌, ◌++◌, map, length}
 use Rattle.std.specs.List.{list_all}
 use Rattle.rare_base.specs.declared.answers.Place.{Place}
@@ -6,7 +7,7 @@ use Rattle.rare_sexpr.specs.declared.tree.Kind.{Kind}
 use Rattle.rare_sexpr.specs.declared.tree.Kind.TheVariants as kind
 use Rattle.rare_sexpr.specs.declared.tree.Sexpr.{Sexpr}
 use Rattle.rare_sexpr.specs.declared.bytes.Class.{Class}
-use Rattle.rare_sexpr.specs.declared.bytes.Class.TheVariants.{Blank, LineEnd, Open, Close, Semicolon, Colon, Digit, Letter, Other}
+use Rattle.rare_sexpr.specs.declared.bytes.Class.TheVariants.{Blank, LineEnd, Open, Close, Semicolon, Colon, Digit, Letter, Quote, Other}
 use Rattle.rare_sexpr.specs.Tree.{Step, go_down, kind_of}
 use Rattle.rare_sexpr.specs.Bytes.{class, after}
 use Rattle.rare_sexpr.specs.Tokens.{ends_atom, ends_comment}
@@ -28,6 +29,7 @@ is_blank Semicolon = false
 is_blank Colon = false
 is_blank Digit = false
 is_blank Letter = false
+is_blank Quote = false
 is_blank Other = false
 
 -- no line feed and no carriage return
@@ -118,6 +120,7 @@ begins_word Close = true
 begins_word Colon = true
 begins_word Digit = true
 begins_word Letter = true
+begins_word Quote = true
 begins_word Other = true
 
 -- first a gap and the bytes of a command, and then what the bytes behind it give

@@ -8,3 +8,4 @@ pub mod Kept
 pub mod Answered
 pub mod Written
 pub mod Grammar
+pub mod TextGrammar

@@ -1,10 +1,11 @@
--- The words of a text: parentheses and atoms, with blanks and comments between them.
+-- The words of a text: parentheses and atoms, with blanks and comments between them
+-- (SMT-LIB 2.6, sections on the lexicon and on s-expressions).
 use Rattle.std.specs.Prelude.{ℕ, Bool, true, false, List, [], ◌∷◌, ◌++◌, if◌then◌else◌}
 use Rattle.rare_base.specs.declared.answers.Place.{Place}
 use Rattle.rare_sexpr.specs.declared.tree.Kind.{Kind}
 use Rattle.rare_sexpr.specs.declared.tree.Kind.TheVariants as kind
 use Rattle.rare_sexpr.specs.declared.bytes.Class.{Class}
-use Rattle.rare_sexpr.specs.declared.bytes.Class.TheVariants.{Blank, LineEnd, Open, Close, Semicolon, Colon, Digit, Letter, Other}
+use Rattle.rare_sexpr.specs.declared.bytes.Class.TheVariants.{Blank, LineEnd, Open, Close, Semicolon, Colon, Digit, Letter, Quote, Other}
 use Rattle.rare_sexpr.specs.declared.parser.Mode.{Mode}
 use Rattle.rare_sexpr.specs.declared.parser.Mode.TheVariants as mode
 use Rattle.rare_sexpr.specs.Bytes.{class, after}
@@ -27,6 +28,7 @@ goes_on Open = false
 goes_on Close = false
 goes_on Semicolon = false
 goes_on Colon = false
+goes_on Quote = false
 goes_on Other = false
 
 -- a byte that may stand behind an atom
@@ -36,6 +38,7 @@ ends_atom LineEnd = true
 ends_atom Open = true
 ends_atom Close = true
 ends_atom Semicolon = true
+ends_atom Quote = true
 ends_atom Colon = false
 ends_atom Digit = false
 ends_atom Letter = false
@@ -50,6 +53,7 @@ ends_comment Semicolon = false
 ends_comment Colon = false
 ends_comment Digit = false
 ends_comment Letter = false
+ends_comment Quote = false
 ends_comment Other = false
 
 -- what a byte at a place begins, where next gives the words behind it
@@ -62,6 +66,7 @@ begins Semicolon b p next = next mode.Comment
 begins Colon b p next = next (mode.Colon p)
 begins Letter b p next = next (mode.Atom p kind.Symbol (b ∷ []))
 begins Digit b p next = wrong p ∷ []
+begins Quote b p next = wrong p ∷ []
 begins Other b p next = wrong p ∷ []
 
 -- what a byte means between words, in a comment, behind a colon and in an atom

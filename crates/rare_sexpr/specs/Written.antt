@@ -1,8 +1,9 @@
--- How a symbol is written.
+-- How a symbol is written
+-- (SMT-LIB 2.6, sections on the lexicon and on s-expressions).
 use Rattle.std.specs.Prelude.{◌≡◌, ℕ, Bool, true, false, ◌&&◌, List, [], ◌∷◌, ◌++◌, take, if◌then◌else◌}
 use Rattle.std.specs.List.{list_all}
 use Rattle.rare_sexpr.specs.declared.bytes.Class.{Class}
-use Rattle.rare_sexpr.specs.declared.bytes.Class.TheVariants.{Blank, LineEnd, Open, Close, Semicolon, Colon, Digit, Letter, Other}
+use Rattle.rare_sexpr.specs.declared.bytes.Class.TheVariants.{Blank, LineEnd, Open, Close, Semicolon, Colon, Digit, Letter, Quote, Other}
 use Rattle.rare_sexpr.specs.Bytes.{class}
 use Rattle.rare_sexpr.specs.Tokens.{goes_on}
 
@@ -16,6 +17,7 @@ begins_symbol Close = false
 begins_symbol Semicolon = false
 begins_symbol Colon = false
 begins_symbol Digit = false
+begins_symbol Quote = false
 begins_symbol Other = false
 
 abbrev pub are_symbol_bytes : List ℕ → Bool

@@ -21,6 +21,8 @@ pub enum Class {
     Digit,
     /// A byte of a symbol that may stand first: a letter or one of `~ ! @ $ % ^ & * _ - + = < > . ? /`.
     Letter,
+    /// `"` or `|`: it ends an atom, and begins a string or a quoted symbol.
+    Quote,
     Other,
 }
 
@@ -39,6 +41,7 @@ pub fn class_of(byte: u8) -> Class
         b'a'..=b'z' | b'A'..=b'Z' => Class::Letter,
         b'~' | b'!' | b'@' | b'$' | b'%' | b'^' | b'&' | b'*' | b'_' => Class::Letter,
         b'-' | b'+' | b'=' | b'<' | b'>' | b'.' | b'?' | b'/' => Class::Letter,
+        b'"' | b'|' => Class::Quote,
         _ => Class::Other,
     }
 }

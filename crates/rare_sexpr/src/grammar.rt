@@ -1,11 +1,12 @@
-//! The law that ties the commands of a text to the grammar. It runs no code.
+//! The laws that tie the commands of a text to the grammar. They run no code.
 
 ghost use Rattle.std.specs.Prelude.{◌≡◌, ℕ, ◌<◌, ◌≤◌, true, List, ◌++◌};
 ghost use Rattle.rare_base.specs.declared.answers.Place.{Place};
 ghost use Rattle.rare_sexpr.specs.declared.tree.Sexpr.{Sexpr};
 ghost use Rattle.rare_sexpr.specs.Tree.{kind_of};
-ghost use Rattle.rare_sexpr.specs.Commands.{put_first, no_commands, refused_at, commands_from};
+ghost use Rattle.rare_sexpr.specs.Commands.{Commands, put_first, no_commands, refused_at, commands_from};
 ghost use Rattle.rare_sexpr.specs.Grammar.{behind, IsGap, IsLastGap, may_follow, Spells, nesting, IsReading};
+ghost use Rattle.rare_sexpr.specs.TextGrammar.{AreCommands};
 
 /// The commands of a text are those that its bytes spell.
 ///
@@ -21,4 +22,13 @@ pub fn commands_are_spelled()
     ensures deep { (p : Place) (gap word rest : List ℕ) (e : Sexpr) → IsGap gap → Spells e (behind p gap) word → 5000 < nesting e →
         commands_from p (gap ++ (word ++ rest)) ≡ refused_at (behind p gap) }
     ensures blank { (p : Place) (bytes : List ℕ) → IsLastGap bytes → commands_from p bytes ≡ no_commands }
+{}
+
+/// The commands of a whole text are those that its bytes spell, one behind the other.
+///
+/// `read`: all commands that are read are spelled, and where there is a fault no command begins.
+/// `one`: what the bytes spell is read, so they spell one list of commands and at most one fault.
+pub fn texts_are_spelled()
+    ensures read { (p : Place) (bytes : List ℕ) → AreCommands p bytes (commands_from p bytes) }
+    ensures one { (p : Place) (bytes : List ℕ) (c : Commands) → AreCommands p bytes c → c ≡ commands_from p bytes }
 {}

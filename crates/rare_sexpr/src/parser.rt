@@ -269,7 +269,8 @@ impl Parser {
                 Ok(self.go_on(byte, Mode::Between))
             }
             Class::Close if !self.lists.is_empty() => self.close(alloc, byte),
-            _ => Ok(self.refuse(place)),
+            Class::Digit | Class::Quote | Class::Other => Ok(self.refuse(place)),
+            Class::Open | Class::Close => Ok(self.refuse(place)),
         }
     }
 

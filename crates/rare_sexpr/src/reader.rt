@@ -30,9 +30,10 @@ pub struct Refused {
 
 /// Reads the commands of a text that is fed in pieces of any size.
 ///
-/// It keeps the bytes that are not yet taken, and reads each byte once. Contracts see those bytes, the
-/// place of the first of them, the number of bytes fed, whether the end was told, and the refusal that
-/// stands.
+/// It keeps the bytes that are not yet taken, and reads each byte once, with two exceptions: the byte
+/// that ends an outermost atom is looked at again, and after want of memory the bytes that are not yet
+/// taken are read anew. Contracts see those bytes, the place of the first of them, the number of bytes
+/// fed, whether the end was told, and the refusal that stands.
 #[derive(Debug, Drop)]
 pub struct Reader {
     alloc: Global,
@@ -79,7 +80,8 @@ impl Reader {
         }
     }
 
-    /// Adds bytes at the end. Where memory is wanting, the reader stays.
+    /// Adds bytes at the end: not after `end`, and at most 2^32 - 2 bytes in all. Where memory is
+    /// wanting, the reader stays.
     pub fn feed(&mut self, bytes: &[u8]) -> Result<(), AllocError>
         requires untold { self.old.ended ≡ false }
         requires short { self.old.fed + length bytes.now ≤ 2 ^ 32 - 2 }
@@ -118,13 +120,6 @@ impl Reader {
         self.ended = true;
     }
 
-    /// How many bytes are not yet taken.
-    pub fn len(&self) -> usize
-        ensures { result ≡ length self.now.rest }
-    {
-        self.bytes.len() - self.start
-    }
-
     fn refuse(&mut self, place: Place) -> Fault
         ensures fault { result ≡ Fault.Refused place Reason.Unread }
         ensures state { self.new ≡ record self.old { refusal = Some (unread_at place) } }
@@ -158,15 +153,12 @@ impl Reader {
                 Ok(Next::Command(command))
             }
             Ok(Found::Refused(place)) => Err(self.refuse(place)),
-            Ok(Found::NeedMore) if parser.is_idle() => {
-                self.start = self.bytes.len();
-                self.seen = self.start;
-                self.place = parser.place;
-                self.parser = parser;
-                Ok(Next::NeedMore)
-            }
             Ok(Found::NeedMore) => {
                 self.seen = self.bytes.len();
+                if parser.is_idle() {
+                    self.start = self.seen;
+                    self.place = parser.place;
+                }
                 self.parser = parser;
                 Ok(Next::NeedMore)
             }

@@ -94,7 +94,7 @@ fn show_text(alloc: Global, front: &[u8], back: &[u8]) -> Result<Text, AllocErro
 }
 
 // Texts, and what is read of them, with the places of all parts.
-const ROWS: [(&[u8], &[u8]); 24] = [
+const ROWS: [(&[u8], &[u8]); 25] = [
     (b"", b" end"),
     (b" \t\r\n; a comment", b" end"),
     (b"(a b)", b" ( a@1:2 b@1:4 )@1:1 end"),
@@ -111,7 +111,8 @@ const ROWS: [(&[u8], &[u8]); 24] = [
     (b":k :", b" :k@1:1 Unread@1:4"),
     (b"a\n(b : c)", b" a@1:1 Unread@2:1"),
     (b"a1 1a", b" a1@1:1 Unread@1:4"),
-    (b"a\"", b" Unread@1:1"),
+    (b"a\"", b" a@1:1 Unread@1:2"),
+    (b":k|", b" :k@1:1 Unread@1:3"),
     (b"(a)\"", b" ( a@1:2 )@1:1 Unread@1:4"),
     (b"~!@$%^&*_-+=<>.?/ ", b" ~!@$%^&*_-+=<>.?/@1:1 end"),
     (b"(a;b)\n)", b" ( a@1:2 )@1:1 end"),
@@ -158,23 +159,31 @@ const OPEN: [u8; 5001] = [b'('; 5001];
 
 const CLOSE: [u8; 5001] = [b')'; 5001];
 
-// The expressions in so many lists within one another, or none where they are refused.
-fn read_nested(alloc: Global, levels: usize) -> Result<Option<usize>, AllocError>
+// What is read of so many lists within one another.
+fn read_nested(alloc: Global, levels: usize) -> Result<Result<Next, Fault>, AllocError>
     requires { levels ≤ 5001 }
 {
     let mut reader = Reader::new(alloc);
     reader.feed(&OPEN[..levels])?;
     reader.feed(&CLOSE[..levels])?;
-    match reader.next_command() {
-        Ok(Next::Command(e)) => Ok(Some(walk(&e))),
-        _ => Ok(None),
-    }
+    Ok(reader.next_command())
 }
 
 #[test]
 fn reads_deep_lists_and_writes_symbols(rt: HostRuntime) -> Result<(), Fail> {
-    assert_eq!(rt; read_nested(rt.alloc(), 5000)?, Some(5000));
-    assert_eq!(rt; read_nested(rt.alloc(), 5001)?, None);
+    let count = match read_nested(rt.alloc(), 5000)? {
+        Ok(Next::Command(e)) => walk(&e),
+        _ => 0,
+    };
+    assert_eq!(rt; count, 5000);
+    let refused = matches!(
+        read_nested(rt.alloc(), 5001)?,
+        Err(Fault::Refused {
+            place: Place { line: 1, column: 1 },
+            reason: Reason::Unread
+        })
+    );
+    assert!(rt; refused);
     let mut out = Text::new(rt.alloc());
     for symbol in [&b"a-1"[..], b"a b", b"1", b"", b":k"] {
         write_symbol(&mut out, symbol)?;

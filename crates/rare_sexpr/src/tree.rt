@@ -4,7 +4,7 @@ ghost use Rattle.rare_sexpr.specs.Tree.{made_of, items_of, text_of, kind_of, pla
 use rare_base::{Place, Text};
 use rare_list::Sequence;
 
-/// What an expression is.
+/// What an expression is (SMT-LIB 2.6, sections on the lexicon and on s-expressions).
 #[derive(Clone, Copy, Debug, PartialEq, Eq)]
 pub enum Kind {
     /// Letters, digits and `~ ! @ $ % ^ & * _ - + = < > . ? /`, no digit first.

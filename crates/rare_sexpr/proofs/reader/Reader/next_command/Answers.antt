@@ -1,5 +1,4 @@
-use Rattle.std.proofs.Common.{sym, ◌∙◌}
-use Rattle.rare_sexpr.proofs.Readers.{found_first, first_decided, found_undecided, found_idle}
+use Rattle.rare_sexpr.proofs.Readers.{found_first, first_decided, found_undecided}
 use Rattle.rare_sexpr.proofs.reader.Reader.next_command.Goals as goal
 
 pub returns-in-Ok-Command-clause-next : goal.returns-in-Ok-Command-clause-next
@@ -10,18 +9,7 @@ returns-in-Ok-Command-clause-next c =
 pub returns-in-Ok-Command-clause-more : goal.returns-in-Ok-Command-clause-more
 returns-in-Ok-Command-clause-more c = first_decided _ _ _ (returns-in-Ok-Command-clause-next c)
 
-pub returns-in-Ok-NeedMore-clause-more : goal.returns-in-Ok-NeedMore-clause-more
-returns-in-Ok-NeedMore-clause-more c =
+pub returns-after-is_idle-clause-more : goal.returns-after-is_idle-clause-more
+returns-after-is_idle-clause-more c =
     found_undecided c.self.inside c.args.self.now c.deref.result.now c.replace-parser.result c.in-Ok-NeedMore.field-0 c.read.new.self
     c.self.invariant c.in_default.is c.self.view_is c.deref.ensures.value c.replace-parser.ensures.value c.in-Ok-NeedMore.field-0-is c.in-Ok-NeedMore.ensures
-
-pub returns-in-Ok-NeedMore-2-clause-more : goal.returns-in-Ok-NeedMore-2-clause-more
-returns-in-Ok-NeedMore-2-clause-more c =
-    found_undecided c.self.inside c.args.self.now c.deref.result.now c.replace-parser.result c.in-Ok-NeedMore.field-0 c.read.new.self
-    c.self.invariant c.in_default.is c.self.view_is c.deref.ensures.value c.replace-parser.ensures.value c.in-Ok-NeedMore.field-0-is c.in-Ok-NeedMore.ensures
-
-pub invariant_of-self-then-is_idle : goal.invariant_of-self-then-is_idle
-invariant_of-self-then-is_idle c =
-    let r = c.self.inside in
-    found_idle r c.deref.result.now c.replace-parser.result c.in-Ok-NeedMore.field-0 c.read.new.self c.len-self-inside.result
-    c.self.invariant c.deref.ensures.value c.replace-parser.ensures.value c.in-Ok-NeedMore.field-0-is (c.len-self-inside.ensures ∙ r.bytes.ok.0) (sym c.is_idle.ensures ∙ c.if-is_idle.true) c.in-Ok-NeedMore.ensures
