@@ -1,15 +1,8 @@
-use Rattle.std.proofs.Common.{◌≡◌, ℕ, ◌+◌, ◌<◌, ◌≤◌, List, [], ◌++◌, length, take, drop, Option, Some, None, IfSome, refl, sym, ◌∙◌, ap, arith, append_assoc, length-append}
-use Rattle.std.proofs.lemmas.Grind.{common_steps}
+-- Bytes that are read and written piece by piece.
+use Rattle.std.proofs.Common.{◌≡◌, ℕ, ◌+◌, ◌≤◌, List, ◌++◌, length, take, drop, Option, Some, None, IfSome, refl, sym, ◌∙◌, ap, arith, append_assoc, length-append}
 use Rattle.std.proofs.Math.Seq.{take-add}
-use Rattle.std.proofs.lemmas.List.{length-take-le, take_all, take-append-le}
+use Rattle.std.proofs.lemmas.List.{length-take-le, take-append-le}
 use Rattle.rare_base.specs.Outside.{ReadsAt, HasRead, grown}
-
-pub append_none : (xs : List ℕ) → xs ++ [] ≡ xs
-append_none xs = grind (arith, common_steps)
-
-pub grown_none : (was : Option (List ℕ)) → grown was [] ≡ was
-grown_none None = refl
-grown_none (Some w) = ap Some (append_none w)
 
 pub grown_more : (was : Option (List ℕ)) (bytes : List ℕ) (at n : ℕ) →
     grown (grown was (take at bytes)) (take n (drop at bytes)) ≡ grown was (take (at + n) bytes)
@@ -28,15 +21,6 @@ pub reads_more : (told : Option (List ℕ)) (read buf : List ℕ) (n : ℕ) → 
     IfSome told (λ all. ReadsAt all (length read) n buf) → n ≤ length buf → IfSome told (λ all. HasRead all (read ++ take n buf))
 reads_more None read buf n h r le = tt
 reads_more (Some all) read buf n h r le = has_read_more all read buf n h r le
-
-pub reads_end : (told : Option (List ℕ)) (read buf : List ℕ) → IfSome told (λ all. HasRead all read) →
-    IfSome told (λ all. ReadsAt all (length read) 0 buf) → IfSome told (λ all. all ≡ read)
-reads_end None read buf h r = tt
-reads_end (Some all) read buf h r = let le : length all ≤ length read = r.end.0 refl in sym (h.front ∙ take_all (length read) all le)
-
-pub reads_long : (told : Option (List ℕ)) (read : List ℕ) (n : ℕ) → IfSome told (λ all. HasRead all read) → n < length read → IfSome told (λ all. n < length all)
-reads_long None read n h lt = tt
-reads_long (Some all) read n h lt = omega (arith, h.within)
 
 pub piece_len : (new read buf rest : List ℕ) (n : ℕ) → new ≡ read ++ take n (buf ++ rest) → n ≤ length buf → length new ≡ length read + n
 piece_len new read buf rest n e le =

@@ -1,3 +1,4 @@
+-- Texts by their names, and the numbers of calls that fail.
 use Rattle.std.specs.Prelude.{ℕ, Bool, nat_eq, List, [], ◌∷◌, Option, Some, None, if◌then◌else◌, bytes_eq}
 use Rattle.std.specs.List.{list_any}
 use Rattle.rare_base.specs.declared.memory.NamedText.{NamedText}

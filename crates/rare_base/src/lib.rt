@@ -12,7 +12,8 @@ mod text;
 
 pub use answers::{Fault, Place, Reason, Status};
 pub use memory::{MemoryLibrary, MemorySink, NamedText, NamedTexts};
-pub use outside::{Failed, LONGEST, Library, ReadError, Sink, put_whole, read_whole};
+pub use outside::{Failed, Library, ReadError, Sink, put_whole, read_whole};
+/// The list behind the plural types, as `Texts` and `Numbers`.
 pub use rare_list::Sequence;
 pub use real::{FileLibrary, OutSink};
 pub use text::{Text, Texts};

@@ -35,7 +35,7 @@ pub struct MemoryLibrary {
 impl MemoryLibrary {
     ghost use Rattle.rare_base.specs.Memory.{texts_of, read_piece, failing_reads, reads_of, faults_of, text_read};
 
-    /// The library of these texts. A read gives at most `piece` bytes, and the reads whose numbers
+    /// The library of these texts. A read gives at most `piece` bytes, which is not 0, and the reads whose numbers
     /// stand in `fail`, counted from 1, fail.
     pub fn new(texts: NamedTexts, piece: usize, fail: Vec<u64>) -> MemoryLibrary
         requires { 0 < piece }
@@ -96,12 +96,15 @@ fn copy_piece(text: &[u8], at: usize, piece: usize, buf: &mut [u8]) -> usize
 }
 
 impl Library for MemoryLibrary {
+    ghost use Rattle.std.specs.Prelude.{None};
     ghost use Rattle.rare_base.specs.MemoryTexts.{text_named};
     ghost use Rattle.rare_base.specs.Memory.{texts_of, read_piece, failing_reads, reads_of, faults_of, read_count};
 
     ghost text = { λ m w. text_named m.texts w };
 
     ghost faults = { λ m w. m.faults };
+
+    ghost reads = { λ _. None };
 
     fn read(&mut self, name: &[u8], at: u64, buf: &mut [u8]) -> Result<usize, Failed>
         requires { 0 < length buf.old }
@@ -143,8 +146,9 @@ pub struct MemorySink {
 impl MemorySink {
     ghost use Rattle.rare_base.specs.Memory.{held, room_of, put_piece, failing_puts, puts_of, put_faults, room_left, put_count};
 
-    /// An empty sink for `room` bytes, which it takes from the allocator here. A put takes at most
-    /// `piece` bytes, and the puts whose numbers stand in `fail`, counted from 1, fail.
+    /// An empty sink for `room` bytes, which it takes from the allocator here; an error is want of
+    /// memory. A put takes at most `piece` bytes, which is not 0, and the puts whose numbers stand in
+    /// `fail`, counted from 1, fail.
     pub fn new(
         alloc: Global,
         piece: usize,

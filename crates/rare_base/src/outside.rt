@@ -1,5 +1,6 @@
-ghost use Rattle.std.specs.Prelude.{◌≡◌, ◌≢◌, ℕ, ◌+◌, ◌-◌, ◌^◌, ◌<◌, ◌≤◌, List, [], ◌++◌, length, take, Option, IfSome, IfOk, OnOk, OnErr, IsOk, IsErrOf};
-ghost use Rattle.rare_base.specs.Outside.{Rose, ReadsAt, HasCause, taken, grown};
+ghost use Rattle.std.specs.Prelude.{◌≡◌, ◌≢◌, ℕ, ◌+◌, ◌-◌, ◌^◌, ◌<◌, ◌≤◌, List, [], ◌∷◌, ◌++◌, length, min, take, Option, IfSome, IfOk, OnOk, OnErr, IsOk, IsErrOf};
+ghost use Rattle.rare_base.specs.Outside.{Rose, ReadsAt, HasCause, ok_of, taken, grown};
+ghost use Rattle.rare_base.specs.Reads.{Read, Added, ReadInTurn, ReadToEnd};
 
 use crate::Text;
 use std::alloc::Global;
@@ -16,7 +17,11 @@ pub trait Library {
     /// How often reads of a name failed. It never falls, and ends at 2^64 - 1.
     ghost faults: { Self → List ℕ → ℕ };
 
-    /// Reads bytes of the text of `name` from place `at`, counted from 0, into the front of `buf`.
+    /// Which reads were asked so far, in order, where they are told.
+    ghost reads: { Self → Option (List Read) };
+
+    /// Reads bytes of the text of `name` from place `at`, counted from 0 and at most 2^28, into the
+    /// front of `buf`, which is not empty.
     ///
     /// `Ok(n)` says that the first `n` bytes of `buf` are the text there, and `Ok(0)` that the text
     /// ends before or at that place. `Err` comes only where the faults of that name rose.
@@ -28,7 +33,8 @@ pub trait Library {
         ensures texts { (w : List ℕ) → text self.new w ≡ text self.old w }
         ensures cause { HasCause (faults self.old name.now) (faults self.new name.now) result }
         ensures others { (w : List ℕ) → faults self.old w ≤ faults self.new w }
-        ensures quiet { OnOk result ((w : List ℕ) → faults self.new w ≡ faults self.old w) };
+        ensures quiet { OnOk result ((w : List ℕ) → faults self.new w ≡ faults self.old w) }
+        ensures reads { Added (reads self.old) (reads self.new) (record { name = name.now; at = at; room = length buf.old; gave = ok_of result } ∷ []) };
 }
 
 /// Where an answer goes.
@@ -39,7 +45,7 @@ pub trait Sink {
     /// How often puts failed. It never falls, and ends at 2^64 - 1.
     ghost faults: { Self → ℕ };
 
-    /// Appends some of the first of `bytes`, and says how many. `Err` appends nothing, and comes
+    /// Appends some of the first of `bytes`, which are not empty, and says how many. `Err` appends nothing, and comes
     /// only where the faults rose.
     fn put(&mut self, bytes: &[u8]) -> Result<usize, Failed>
         requires { 0 < length bytes.now }
@@ -60,7 +66,7 @@ pub enum ReadError {
 }
 
 /// The most bytes that a file may have.
-pub const LONGEST: usize = 1 << 28;
+const LONGEST: usize = 1 << 28;
 
 /// The most bytes that one read asks for.
 const PIECE: usize = 1 << 16;
@@ -70,16 +76,16 @@ const PIECE: usize = 1 << 16;
 fn room_at(at: usize) -> usize
     requires { at ≤ 2 ^ 28 }
     ensures some { 0 < result }
-    ensures piece { result ≤ 2 ^ 16 }
-    ensures within { at + result ≤ 2 ^ 28 + 1 }
+    ensures piece { result ≡ min (2 ^ 16) (2 ^ 28 + 1 - at) }
 {
     PIECE.min(LONGEST + 1 - at)
 }
 
-/// Reads the whole text of `name`, piece by piece, each byte once.
+/// Reads the whole text of `name`, piece by piece, each byte once, and no byte behind the one that
+/// shows that the file is too long.
 ///
 /// `Failed` comes only where the faults of that name rose, and `TooLong` only where the text, where
-/// it is told, has more than 2^28 bytes. No other count of faults changes.
+/// it is told, has more than 2^28 bytes. Unless it answers `Failed`, no count of faults changes.
 pub fn read_whole<L: Library>(alloc: Global, files: &mut L, name: &[u8]) -> Result<Text, ReadError>
     ensures text { IfOk result (λ t. IfSome (L.text files.old name.now) (λ all. all ≡ t)) }
     ensures length { IfOk result (λ t. length t ≤ 2 ^ 28) }
@@ -88,6 +94,8 @@ pub fn read_whole<L: Library>(alloc: Global, files: &mut L, name: &[u8]) -> Resu
     ensures quiet { (result ≢ Err ReadError.Failed) → (w : List ℕ) → L.faults files.new w ≡ L.faults files.old w }
     ensures later { (w : List ℕ) → L.faults files.old w ≤ L.faults files.new w }
     ensures texts { (w : List ℕ) → L.text files.new w ≡ L.text files.old w }
+    ensures reads { ReadInTurn (L.reads files.old) (L.reads files.new) (name.now ∷ []) }
+    ensures end { OnOk result (ReadToEnd (L.reads files.old) (L.reads files.new) name.now) }
 {
     let mut text = Text::new(alloc);
     let mut buf = [0u8; PIECE];

@@ -43,6 +43,8 @@ impl<R: Files> Library for FileLibrary<'_, R> {
 
     ghost faults = { λ s _. s.faults };
 
+    ghost reads = { λ _. None };
+
     fn read(&mut self, name: &[u8], at: u64, buf: &mut [u8]) -> Result<usize, Failed> {
         match read_at(self.rt, name, at, buf) {
             Some(n) => Ok(n),

@@ -117,6 +117,6 @@ fn files_are_read_at_a_place(rt: HostRuntime) -> Result<(), Fail> {
 #[test]
 fn output_takes_bytes(rt: HostRuntime) -> Result<(), Fail> {
     let mut out = OutSink::new(&rt);
-    put_whole(&mut out, b"rare\n")?;
+    assert_eq!(rt; put_whole(&mut out, b"rare\n"), Ok(()));
     Ok(())
 }

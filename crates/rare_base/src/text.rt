@@ -55,14 +55,14 @@ impl Text {
         self.bytes.as_slice()
     }
 
-    /// An equal text.
+    /// An equal text. An error is want of memory.
     pub fn copy(&self, alloc: Global) -> Result<Text, AllocError>
         ensures { IfOk result (λ t. t ≡ self.now) }
     {
         Text::of(alloc, self.bytes.as_slice())
     }
 
-    /// The text of these bytes.
+    /// The text of these bytes. An error is want of memory.
     pub fn of(alloc: Global, bytes: &[u8]) -> Result<Text, AllocError>
         ensures { IfOk result (λ t. t ≡ bytes.now) }
     {
