@@ -17,7 +17,7 @@ use Rattle.rare_check.specs.Steps.{Equation, ids_of, premises_of, rule_fault, st
 use Rattle.rare_check.specs.declared.problem.Rewrite.{Rewrite}
 use Rattle.rare_check.specs.Stated.{stated_rewrite, HaveIds}
 use Rattle.rare_check.proofs.Problems.{names_stated}
-use Rattle.rare_check.specs.Verdicts.{fault_of}
+use Rattle.rare_check.specs.Verdicts.{fault_of, name_of}
 use Rattle.rare_check.specs.CommandsRead.{SidesAreIds}
 use Rattle.rare_check.specs.Judging.{IsJudged, AreAllIds, equations_at, earlier_of, bad_of, bad_in}
 use Rattle.rare_check.specs.Progress.{Progress, progress_of, progress, by_fault, unless_bad, with_place}
@@ -55,11 +55,23 @@ step_taken ts problem old new id s step kept good fault same left right ids side
     (λ i. record { earlier = earlier i; concluded = (concluded i).keys; bad = option_map bad_of (bad i) })
     ∙ sym (ap (unless_bad problem p (Step step)) (ap (option_map bad_of) good) ∙ ap (by_fault problem p (Step step)) fault)
 
--- a bad step is the first that is bad
-pub step_bad : (ts : List Tree) (problem : StatedProblem) (old : Judged) (c : ProofCommand) (f : StepFault) → old.bad ≡ None → fault_of problem (earlier_of ts old) c ≡ Some f →
-    progress problem (progress_of ts old) c ≡ by_fault problem (progress_of ts old) c (Some f)
-step_bad ts problem old c f good fault =
-    ap (unless_bad problem (progress_of ts old) c) (ap (option_map bad_of) good) ∙ ap (by_fault problem (progress_of ts old) c) fault
+-- a bad command is the first that is bad
+pub bad_taken : (ts : List Tree) (problem : StatedProblem) (old new : Judged) (c : ProofCommand) (f : StepFault) → old.bad ≡ None → fault_of problem (earlier_of ts old) c ≡ Some f →
+    new.ids ≡ old.ids → new.sides ≡ old.sides → new.concluded ≡ old.concluded → new.bad ≡ Some (record { name = name_of c; fault = f }) →
+    progress_of ts new ≡ progress problem (progress_of ts old) c
+bad_taken ts problem old new c f good fault ids sides concluded bad =
+    let p = progress_of ts old in
+    (λ i. record { earlier = equations_at ts (ids i) (sides i); concluded = (concluded i).keys; bad = option_map bad_of (bad i) })
+    ∙ sym (ap (unless_bad problem p c) (ap (option_map bad_of) good) ∙ ap (by_fault problem p c) fault)
+
+pub progress_same : (ts : List Tree) (old new : Judged) → new.ids ≡ old.ids → new.sides ≡ old.sides → new.concluded ≡ old.concluded → new.bad ≡ old.bad → progress_of ts new ≡ progress_of ts old
+progress_same ts old new ids sides concluded bad = λ i. record { earlier = equations_at ts (ids i) (sides i); concluded = (concluded i).keys; bad = option_map bad_of (bad i) }
+
+pub judged_same : (n : ℕ) (old new : Judged) → IsJudged n old → new.ids ≡ old.ids → new.sides ≡ old.sides → IsJudged n new
+judged_same n old new kept ids sides = record {
+  matched = ap length ids ∙ kept.matched ∙ sym (ap length sides);
+  terms = (let P : List Sides → Type 0 = λ xs. AreAllIds n xs in subst P (sym sides) kept.terms);
+}
 
 pub judged_push : (n : ℕ) (old new : Judged) (id : List ℕ) (s : Sides) → IsJudged n old → SidesAreIds n s → new.ids ≡ old.ids ++ id ∷ [] → new.sides ≡ old.sides ++ s ∷ [] → IsJudged n new
 judged_push n old new id s kept within ids sides = record {

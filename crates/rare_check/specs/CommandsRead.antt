@@ -1,5 +1,6 @@
 -- The commands of a proof as they were read, by the trees of their terms.
-use Rattle.std.specs.Prelude.{◌≡◌, ℕ, ◌<◌, List, ◌∷◌, length, Option, Some, None, Result, Ok, Err}
+use Rattle.std.specs.Prelude.{◌≡◌, ℕ, ◌<◌, List, [], ◌∷◌, length, Option, Some, None, Result, Ok, Err}
+use Rattle.std.specs.Borrow.{Bor}
 use Rattle.rare_term.specs.declared.tree.Tree.{Tree}
 use Rattle.rare_term.specs.Trees.{tree_at}
 use Rattle.rare_check.specs.declared.judged.Sides.{Sides}
@@ -10,30 +11,33 @@ use Rattle.rare_check.specs.declared.stop.Stop.{Stop}
 use Rattle.rare_check.specs.ProofText.{ProofCommand, StatedStep, Step, Conclude, sides_and_rule, step_of}
 use Rattle.rare_check.specs.declared.steps.StepRule.{StepRule}
 use Rattle.rare_sexpr.specs.declared.tree.Sexpr.{Sexpr}
+use Rattle.rare_check.specs.Forms.{texts_in}
 use Rattle.rare_check.specs.Answered.{Stops}
 
 abbrev pub pair_at : List Tree → Sides → Tree × Tree
 pair_at ts s = (tree_at ts s.left.0, tree_at ts s.right.0)
 
-abbrev pub stated_step : List Tree → ReadStep → StatedStep
-stated_step ts s = record { id = s.id; left = tree_at ts s.sides.left.0; right = tree_at ts s.sides.right.0; rule = s.rule; premises = s.premises }
+-- the ids of the premises of a step, by the list that gives them
+abbrev pub premise_ids : {E : Type 0} → (E → Sexpr) → Option (Bor E) → List (List ℕ)
+premise_ids tree None = []
+premise_ids tree (Some ids) = texts_in (tree ids.now)
 
-abbrev pub command_at : List Tree → ReadCommand → ProofCommand
-command_at ts («read».Step s) = Step (stated_step ts s)
-command_at ts («read».Conclude name id) = Conclude name id
+abbrev pub stated_step : {E : Type 0} → (E → Sexpr) → List Tree → ReadStep E → StatedStep
+stated_step tree ts s =
+    record { id = s.id.now; left = tree_at ts s.sides.left.0; right = tree_at ts s.sides.right.0; rule = s.rule; premises = premise_ids tree s.premises }
+
+abbrev pub command_at : {E : Type 0} → (E → Sexpr) → List Tree → ReadCommand E → ProofCommand
+command_at tree ts («read».Step s) = Step (stated_step tree ts s)
+command_at tree ts («read».Conclude name id) = Conclude name.now id.now
 
 abbrev pub SidesAreIds : ℕ → Sides → Type 0
 SidesAreIds n s = (s.left.0 < n) × (s.right.0 < n)
 
-abbrev pub CommandHasIds : ℕ → ReadCommand → Type 0
+abbrev pub CommandHasIds : {E : Type 0} → ℕ → ReadCommand E → Type 0
 CommandHasIds n («read».Step s) = SidesAreIds n s.sides
 CommandHasIds n («read».Conclude name id) = Unit {0}
 
 -- what was read is what is spelled, if anything; want of memory is free
-abbrev pub AreTextsRead : Result (List (List ℕ)) Stop → Option (List (List ℕ)) → Type 0
-AreTextsRead (Ok texts) spelled = spelled ≡ Some texts
-AreTextsRead (Err stop) spelled = Stops stop spelled
-
 abbrev pub AreSidesRead : List Tree → Result Sides Stop → Option (Tree × Tree) → Type 0
 AreSidesRead ts (Ok s) spelled = SidesAreIds (length ts) s × (spelled ≡ Some (pair_at ts s))
 AreSidesRead ts (Err stop) spelled = Stops stop spelled
@@ -52,6 +56,6 @@ abbrev pub ArePartsRead : List Tree → Result (Sides × StepRule) Stop → Opti
 ArePartsRead ts (Ok p) spelled = SidesAreIds (length ts) p.0 × (spelled ≡ Some (pair_at ts p.0, p.1))
 ArePartsRead ts (Err stop) spelled = Stops stop spelled
 
-abbrev pub IsCommandRead : List Tree → Result ReadCommand Stop → Option ProofCommand → Type 0
-IsCommandRead ts (Ok c) spelled = CommandHasIds (length ts) c × (spelled ≡ Some (command_at ts c))
-IsCommandRead ts (Err stop) spelled = Stops stop spelled
+abbrev pub IsCommandRead : {E : Type 0} → (E → Sexpr) → List Tree → Result (ReadCommand E) Stop → Option ProofCommand → Type 0
+IsCommandRead tree ts (Ok c) spelled = CommandHasIds (length ts) c × (spelled ≡ Some (command_at tree ts c))
+IsCommandRead tree ts (Err stop) spelled = Stops stop spelled

@@ -1,9 +1,9 @@
 -- The parts of expressions that the forms of commands ask for.
-use Rattle.std.specs.Prelude.{ℕ, Bool, true, false, ◌&&◌, List, [], ◌∷◌, bytes_eq, Option, Some, None, if◌then◌else◌}
+use Rattle.std.specs.Prelude.{ℕ, Bool, true, false, ◌&&◌, List, [], ◌∷◌, map, bytes_eq, Option, Some, None, if◌then◌else◌}
 use Rattle.rare_sexpr.specs.declared.tree.Kind.{Kind}
 use Rattle.rare_sexpr.specs.declared.tree.Kind.TheVariants as kind
 use Rattle.rare_sexpr.specs.declared.tree.Sexpr.{Sexpr}
-use Rattle.rare_sexpr.specs.Tree.{kind_of, text_of}
+use Rattle.rare_sexpr.specs.Tree.{kind_of, text_of, items_of}
 
 abbrev pub is_symbol_kind : Kind → Bool
 is_symbol_kind kind.Symbol = true
@@ -39,3 +39,7 @@ and_then (Some x) f = f x
 abbrev pub symbols_at : List Sexpr → Option (List (List ℕ))
 symbols_at [] = Some []
 symbols_at (e ∷ es) = if is_symbol e then and_then (symbols_at es) (λ ts. Some (text_of e ∷ ts)) else None
+
+-- the texts of the items of an expression
+abbrev pub texts_in : Sexpr → List (List ℕ)
+texts_in e = map text_of (items_of e)

@@ -7,14 +7,15 @@ abbrev pub is_among : List (List ℕ) → List ℕ → Bool
 is_among names name = list_any (bytes_eq name) names
 
 -- the words of the theories and of sorts
-abbrev pub table_words : List (List ℕ)
-table_words = map codes (
+abbrev pub theory_words : List (List ℕ)
+theory_words = map codes (
     "true" ∷ "false" ∷ "not" ∷ "=>" ∷ "xor" ∷ "and" ∷ "or" ∷ "=" ∷ "distinct" ∷ "ite" ∷ "-" ∷ "+" ∷ "*" ∷ "div" ∷
     "mod" ∷ "abs" ∷ "<=" ∷ "<" ∷ ">=" ∷ ">" ∷ "select" ∷ "store" ∷ "bvnot" ∷ "bvneg" ∷ "bvadd" ∷ "bvmul" ∷ "bvand" ∷
     "bvor" ∷ "bvxor" ∷ "bvsub" ∷ "bvudiv" ∷ "bvurem" ∷ "bvsdiv" ∷ "bvsrem" ∷ "bvsmod" ∷ "bvshl" ∷ "bvlshr" ∷
     "bvashr" ∷ "bvnand" ∷ "bvnor" ∷ "bvxnor" ∷ "bvult" ∷ "bvule" ∷ "bvugt" ∷ "bvuge" ∷ "bvslt" ∷ "bvsle" ∷ "bvsgt" ∷
     "bvsge" ∷ "bvcomp" ∷ "concat" ∷ "Bool" ∷ "Int" ∷ "Array" ∷ "BitVec" ∷ "bv" ∷ [])
 
+-- the reserved words that stand in terms
 abbrev pub reserved_words : List (List ℕ)
 reserved_words = map codes (
     "_" ∷ "!" ∷ "as" ∷ "let" ∷ "exists" ∷ "forall" ∷ "match" ∷ "par" ∷ [])
@@ -27,9 +28,9 @@ begins_reserved (b ∷ bs) = nat_eq b 64 || nat_eq b 46
 abbrev pub is_reserved : List ℕ → Bool
 is_reserved name = begins_reserved name || is_among reserved_words name
 
-abbrev pub is_table_word : List ℕ → Bool
-is_table_word name = is_among table_words name
+abbrev pub is_theory_word : List ℕ → Bool
+is_theory_word name = is_among theory_words name
 
 -- whether a text that declared these names may declare this one
 abbrev pub may_declare : List (List ℕ) → List ℕ → Bool
-may_declare names name = not (is_reserved name) && (not (is_table_word name) && not (is_among names name))
+may_declare names name = not (is_reserved name) && (not (is_theory_word name) && not (is_among names name))

@@ -1,4 +1,4 @@
--- The problem that a text states.
+-- The problem that a text states (after SMT-LIB 2.6, section on commands).
 use Rattle.std.specs.Prelude.{ℕ, Bool, ◌&&◌, not, List, [], ◌∷◌, ◌++◌, map, codes, Option, Some, None, Result, Ok, Err, if◌then◌else◌}
 use Rattle.rare_base.specs.Answers.{Refusal, unread_at}
 use Rattle.rare_sexpr.specs.declared.tree.Sexpr.{Sexpr}

@@ -2,6 +2,7 @@ ghost use Rattle.std.specs.Prelude.{◌≡◌, ◌+◌, ◌-◌, ◌^◌, ◌≤
 ghost use Rattle.rare_check.specs.TermText.{constants};
 ghost use Rattle.rare_check.specs.Stated.{stated, HaveIds};
 ghost use Rattle.rare_check.specs.Checking.{start, answer, Refuses, ValidAreTrue};
+ghost use Rattle.rare_check.specs.Verdicts.{checked};
 
 use crate::checking::take_commands;
 use crate::judged::Judged;
@@ -46,10 +47,12 @@ impl<T: Terms> Model for Checker<T> {
 
 impl<T: Terms + Drop> Checker<T> {
     /// A checker that was fed nothing, for a problem that was read into these terms. It takes no memory.
+    /// With the bytes of a whole proof it answers what the proof comes to.
     pub fn new(alloc: Global, terms: T, problem: Problem) -> Checker<T>
         requires ids { HaveIds (length (T.trees terms)) problem.rewrites }
         requires symbols { T.symbols terms ≡ constants problem.scope }
-        ensures { result ≡ start (stated (T.trees terms) problem) }
+        ensures held { result ≡ start (stated (T.trees terms) problem) }
+        ensures whole { (proof : List ℕ) → answer result proof ≡ checked (stated (T.trees terms) problem) proof }
     {
         Checker {
             alloc,

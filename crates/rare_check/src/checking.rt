@@ -41,7 +41,7 @@ fn take_command<E: Expr, T: Terms>(
             });
         }
     };
-    match judge(alloc, terms, problem, judged, command) {
+    match judge(alloc, terms, problem, judged, &command) {
         Ok(()) => Ok(()),
         Err(_) => Err(Fault::Memory),
     }

@@ -1,38 +1,40 @@
-ghost use Rattle.std.specs.Prelude.{◌≡◌, ◌≤◌, List, [], Some, length};
+ghost use Rattle.std.specs.Prelude.{◌≡◌, ◌≤◌, List, [], Some, None, length, if◌then◌else◌};
+ghost use Rattle.std.specs.List.{list_all};
 ghost use Rattle.rare_sexpr.specs.Tree.{items_of};
 ghost use Rattle.rare_term.specs.Trees.{Extends};
 ghost use Rattle.rare_term.specs.declared.tree.Tree.{Tree};
-ghost use Rattle.rare_check.specs.Forms.{symbols_at};
+ghost use Rattle.rare_check.specs.Forms.{is_symbol, texts_in};
 ghost use Rattle.rare_check.specs.TermText.{constants};
 ghost use Rattle.rare_check.specs.ProofText.{rule_at, premises_at, sides_of_equation, sides_of_clause, proof_command};
-ghost use Rattle.rare_check.specs.CommandsRead.{AreSidesRead, AreTextsRead, ArePartsRead, parts_of, step_behind, IsCommandRead};
+ghost use Rattle.rare_check.specs.CommandsRead.{AreSidesRead, ArePartsRead, parts_of, premise_ids, step_behind, IsCommandRead};
 
 use crate::judged::Sides;
 use crate::scope::Scope;
 use crate::steps::StepRule;
 use crate::stop::Stop;
 use crate::terms::{is_keyword_expression, is_symbol_expression, is_word_expression, read_term};
-use rare_base::{Text, Texts};
 use rare_sexpr::{Expr, Kind};
 use rare_term::Terms;
 use std::alloc::Global;
 
-/// A step as it was read.
-#[derive(Debug, Drop)]
-pub struct ReadStep {
-    pub id: Text,
+/// A step as it was read. Its ids are lent from its expression.
+#[derive(Debug)]
+#[derive_where(Clone, Copy)]
+pub struct ReadStep<'e, E> {
+    pub id: &'e [u8],
     pub sides: Sides,
     pub rule: StepRule,
-    /// The ids of its premises.
-    pub premises: Texts,
+    /// The list of the ids of its premises, where the step gives one.
+    pub premises: Option<&'e E>,
 }
 
-/// A command of a proof as it was read.
-#[derive(Debug, Drop)]
-pub enum ReadCommand {
-    Step(ReadStep),
+/// A command of a proof as it was read. Its words are lent from its expression.
+#[derive(Debug)]
+#[derive_where(Clone, Copy)]
+pub enum ReadCommand<'e, E> {
+    Step(ReadStep<'e, E>),
     /// The name of a rewrite, and the id of the step that concludes it.
-    Conclude { name: Text, id: Text },
+    Conclude { name: &'e [u8], id: &'e [u8] },
 }
 
 fn rule_of<E: Expr>(e: &E) -> Option<StepRule>
@@ -49,29 +51,24 @@ fn rule_of<E: Expr>(e: &E) -> Option<StepRule>
     }
 }
 
-// The texts of items that are all symbols.
-fn read_symbols<E: Expr>(alloc: Global, e: &E) -> Result<Texts, Stop>
-    ensures { AreTextsRead result (symbols_at (items_of (E.tree e.now))) }
+// Whether the items of a list are all symbols.
+fn are_symbols<E: Expr>(e: &E) -> bool
+    ensures { result ≡ list_all is_symbol (items_of (E.tree e.now)) }
 {
-    let mut texts = Texts::new(alloc);
     for k in 0..e.len() {
-        let item = e.item(k);
-        if !is_symbol_expression(item) {
-            return Err(Stop::Unread);
+        if !is_symbol_expression(e.item(k)) {
+            return false;
         }
-        texts.push(Text::of(alloc, item.text())?)?;
     }
-    Ok(texts)
+    true
 }
 
-fn read_premises<E: Expr>(alloc: Global, keyword: &E, ids: &E) -> Result<Texts, Stop>
-    ensures { AreTextsRead result (premises_at (E.tree keyword.now) (E.tree ids.now)) }
+// Whether these are the keyword and the list of the premises of a step.
+#[tactic(auto, using(crate::proofs::CommandForms::symbols_all))]
+fn are_premises<E: Expr>(keyword: &E, ids: &E) -> bool
+    ensures { premises_at (E.tree keyword.now) (E.tree ids.now) ≡ (if result then Some (texts_in (E.tree ids.now)) else None) }
 {
-    if is_keyword_expression(keyword, "premises") && ids.kind() == Kind::List {
-        read_symbols(alloc, ids)
-    } else {
-        Err(Stop::Unread)
-    }
+    is_keyword_expression(keyword, "premises") && ids.kind() == Kind::List && are_symbols(ids)
 }
 
 // The sides of an equation.
@@ -138,32 +135,31 @@ fn read_step_parts<E: Expr, T: Terms>(
     }
 }
 
-fn read_step<E: Expr, T: Terms>(
+fn read_step<'e, E: Expr, T: Terms>(
     alloc: Global,
-    e: &E,
+    e: &'e E,
     scope: &Scope,
     terms: &mut T,
-    premises: Texts,
-) -> Result<ReadCommand, Stop>
+    premises: Option<&'e E>,
+) -> Result<ReadCommand<'e, E>, Stop>
     requires symbols { T.symbols terms.old ≡ constants scope.now }
     requires five { 5 ≤ length (items_of (E.tree e.now)) }
-    ensures read { IsCommandRead (T.trees terms.new) result (step_behind scope.now (items_of (E.tree e.now)) (Some premises)) }
+    ensures read { IsCommandRead E.tree (T.trees terms.new) result (step_behind scope.now (items_of (E.tree e.now)) (Some (premise_ids E.tree premises.entry))) }
     ensures grows { Extends (T.trees terms.old) (T.trees terms.new) }
     ensures symbols { T.symbols terms.new ≡ T.symbols terms.old }
 {
     let (sides, rule) = read_step_parts(alloc, e, scope, terms)?;
-    let id = Text::of(alloc, e.item(1).text())?;
     Ok(ReadCommand::Step(ReadStep {
-        id,
+        id: e.item(1).text(),
         sides,
         rule,
         premises,
     }))
 }
 
-fn read_conclusion<E: Expr>(alloc: Global, e: &E) -> Result<ReadCommand, Stop>
+fn read_conclusion<E: Expr>(e: &E) -> Result<ReadCommand<'_, E>, Stop>
     requires { length (items_of (E.tree e.now)) ≡ 3 }
-    ensures { (ts : List Tree) → IsCommandRead ts result (proof_command [] (items_of (E.tree e.now))) }
+    ensures { (ts : List Tree) → IsCommandRead E.tree ts result (proof_command [] (items_of (E.tree e.now))) }
 {
     if !is_word_expression(e.item(0), "conclude")
         || !is_symbol_expression(e.item(1))
@@ -171,31 +167,31 @@ fn read_conclusion<E: Expr>(alloc: Global, e: &E) -> Result<ReadCommand, Stop>
     {
         return Err(Stop::Unread);
     }
-    let name = Text::of(alloc, e.item(1).text())?;
-    let id = Text::of(alloc, e.item(2).text())?;
-    Ok(ReadCommand::Conclude { name, id })
+    Ok(ReadCommand::Conclude {
+        name: e.item(1).text(),
+        id: e.item(2).text(),
+    })
 }
 
 /// The command of a proof that an expression spells over the names of a scope, or why there is none:
 /// `(step ID (cl (= LEFT RIGHT)) :rule RULE)`, where `:premises (ID ...)` may follow the rule, or
 /// `(conclude NAME ID)`.
-pub fn read_command<E: Expr, T: Terms>(
+pub fn read_command<'e, E: Expr, T: Terms>(
     alloc: Global,
-    e: &E,
+    e: &'e E,
     scope: &Scope,
     terms: &mut T,
-) -> Result<ReadCommand, Stop>
+) -> Result<ReadCommand<'e, E>, Stop>
     requires { T.symbols terms.old ≡ constants scope.now }
-    ensures read { IsCommandRead (T.trees terms.new) result (proof_command scope.now (items_of (E.tree e.now))) }
+    ensures read { IsCommandRead E.tree (T.trees terms.new) result (proof_command scope.now (items_of (E.tree e.now))) }
     ensures grows { Extends (T.trees terms.old) (T.trees terms.new) }
     ensures symbols { T.symbols terms.new ≡ T.symbols terms.old }
 {
     match e.len() {
-        3 => read_conclusion(alloc, e),
-        5 => read_step(alloc, e, scope, terms, Texts::new(alloc)),
-        7 => {
-            let premises = read_premises(alloc, e.item(5), e.item(6))?;
-            read_step(alloc, e, scope, terms, premises)
+        3 => read_conclusion(e),
+        5 => read_step(alloc, e, scope, terms, None),
+        7 if are_premises(e.item(5), e.item(6)) => {
+            read_step(alloc, e, scope, terms, Some(e.item(6)))
         }
         _ => Err(Stop::Unread),
     }

@@ -3,14 +3,14 @@ ghost use Rattle.std.specs.Option.{option_map};
 ghost use Rattle.rare_term.specs.declared.tree.Tree.{Tree};
 ghost use Rattle.rare_term.specs.Trees.{tree_at, args_of, head_of};
 ghost use Rattle.rare_term.specs.SameTrees.{tree_eq, head_eq};
-ghost use Rattle.rare_check.specs.CommandsRead.{SidesAreIds, pair_at, stated_step};
+ghost use Rattle.rare_check.specs.CommandsRead.{SidesAreIds, pair_at, premise_ids, stated_step};
 ghost use Rattle.rare_check.specs.Judging.{IsJudged, earlier_of, AreAllIds, pairs_at, unless_same};
 ghost use Rattle.rare_check.specs.Steps.{sides_named, premises_of, differing, have_same_head, pair_eq, pairs_eq, are_joined, conditions, first_failing, step_fault, equation_fault};
 
 use crate::commands::ReadStep;
 use crate::judged::{Judged, Sides, SidesList};
 use crate::steps::{StepFault, StepRule};
-use rare_base::{Text, Texts};
+use rare_sexpr::Expr;
 use rare_term::{Head, TermId, Terms};
 use std::alloc::{AllocError, Global};
 
@@ -51,18 +51,21 @@ fn sides_of_step(judged: &Judged, id: &[u8]) -> Option<Sides>
 }
 
 // The sides of all premises, or none where one is no earlier step.
-fn sides_of_premises(
+fn sides_of_premises<E: Expr>(
     alloc: Global,
     judged: &Judged,
-    premises: &[Text],
+    premises: Option<&E>,
 ) -> Result<Option<SidesList>, AllocError>
     requires { length judged.now.ids ≡ length judged.now.sides }
-    ensures found { IfOk result (λ found. (ts : List Tree) → premises_of (earlier_of ts judged.now) premises.now ≡ option_map (pairs_at ts) found) }
+    ensures found { IfOk result (λ found. (ts : List Tree) → premises_of (earlier_of ts judged.now) (premise_ids E.tree premises.entry) ≡ option_map (pairs_at ts) found) }
     ensures ids { IfOk result (λ found. (n : ℕ) → AreAllIds n judged.now.sides → IfSome found (AreAllIds n)) }
 {
     let mut found = SidesList::new(alloc);
-    for id in premises {
-        match sides_of_step(judged, id.bytes()) {
+    let Some(ids) = premises else {
+        return Ok(Some(found));
+    };
+    for k in 0..ids.len() {
+        match sides_of_step(judged, ids.item(k).text()) {
             Some(sides) => found.push(sides)?,
             None => return Ok(None),
         }
@@ -198,20 +201,20 @@ fn fault_by_rule<T: Terms>(
 }
 
 /// The first condition of a step that fails after the steps before it, if one does.
-pub fn fault_of_step<T: Terms>(
+pub fn fault_of_step<E: Expr, T: Terms>(
     alloc: Global,
     terms: &T,
     judged: &Judged,
-    step: &ReadStep,
+    step: &ReadStep<'_, E>,
 ) -> Result<Option<StepFault>, AllocError>
     requires judged { IsJudged (length (T.trees terms.now)) judged.now }
     requires sides { SidesAreIds (length (T.trees terms.now)) step.now.sides }
-    ensures { IfOk result (λ fault. fault ≡ step_fault (earlier_of (T.trees terms.now) judged.now) (stated_step (T.trees terms.now) step.now)) }
+    ensures { IfOk result (λ fault. fault ≡ step_fault (earlier_of (T.trees terms.now) judged.now) (stated_step E.tree (T.trees terms.now) step.now)) }
 {
-    if judged.ids.contains(step.id.bytes()) {
+    if judged.ids.contains(step.id) {
         return Ok(Some(StepFault::IdUsed));
     }
-    match sides_of_premises(alloc, judged, step.premises.items())? {
+    match sides_of_premises(alloc, judged, step.premises)? {
         None => Ok(Some(StepFault::NoSuchStep)),
         Some(premises) => fault_by_rule(alloc, terms, step.rule, step.sides, premises.items()),
     }

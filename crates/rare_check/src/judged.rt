@@ -1,4 +1,4 @@
-ghost use Rattle.std.specs.Prelude.{◌≡◌, ◌∷◌, ◌++◌, [], None, false, length, bytes_eq, OnOk, OnErr};
+ghost use Rattle.std.specs.Prelude.{◌≡◌, ◌∷◌, ◌++◌, [], Some, None, false, length, bytes_eq, OnOk, OnErr};
 ghost use Rattle.std.specs.List.{list_any};
 
 use crate::steps::StepFault;
@@ -67,6 +67,24 @@ impl Judged {
             self.sides.pop();
             return Err(error);
         }
+        Ok(())
+    }
+
+    /// Keeps the name and the fault of a command that is not valid. Where memory is wanting, all stays.
+    pub fn set_bad(
+        &mut self,
+        alloc: Global,
+        name: &[u8],
+        fault: StepFault,
+    ) -> Result<(), AllocError>
+        ensures ids { self.new.ids ≡ self.old.ids }
+        ensures sides { self.new.sides ≡ self.old.sides }
+        ensures concluded { self.new.concluded ≡ self.old.concluded }
+        ensures bad { OnOk result (self.new.bad ≡ Some (record { name = name.now; fault = fault })) }
+        ensures err_bad { OnErr result (self.new.bad ≡ self.old.bad) }
+    {
+        let name = Text::of(alloc, name)?;
+        self.bad = Some(BadCommand { name, fault });
         Ok(())
     }
 }

@@ -7,38 +7,32 @@ ghost use Rattle.rare_check.specs.Stated.{stated, HaveIds};
 
 use crate::commands::{ReadCommand, ReadStep};
 use crate::faults::{fault_of_conclusion, fault_of_step};
-use crate::judged::{BadCommand, Judged, Sides};
+use crate::judged::{Judged, Sides};
 use crate::problem::Problem;
 use crate::steps::StepFault;
-use rare_base::Text;
+use rare_sexpr::Expr;
 use rare_term::Terms;
 use std::alloc::{AllocError, Global};
 
 // A step after those before it, none of which is bad.
-fn judge_step<T: Terms>(
+fn judge_step<E: Expr, T: Terms>(
     alloc: Global,
     terms: &T,
     problem: &Problem,
     judged: &mut Judged,
-    step: ReadStep,
+    step: &ReadStep<'_, E>,
 ) -> Result<(), AllocError>
     requires judged { IsJudged (length (T.trees terms.now)) judged.old }
     requires good { judged.old.bad ≡ None }
-    requires sides { SidesAreIds (length (T.trees terms.now)) step.sides }
-    ensures ok { OnOk result (progress_of (T.trees terms.now) judged.new ≡ progress (stated (T.trees terms.now) problem.now) (progress_of (T.trees terms.now) judged.old) (Step (stated_step (T.trees terms.now) step))) }
+    requires sides { SidesAreIds (length (T.trees terms.now)) step.now.sides }
+    ensures ok { OnOk result (progress_of (T.trees terms.now) judged.new ≡ progress (stated (T.trees terms.now) problem.now) (progress_of (T.trees terms.now) judged.old) (Step (stated_step E.tree (T.trees terms.now) step.now))) }
     ensures err { OnErr result (progress_of (T.trees terms.now) judged.new ≡ progress_of (T.trees terms.now) judged.old) }
     ensures kept { IsJudged (length (T.trees terms.now)) judged.new }
 {
-    match fault_of_step(alloc, terms, judged, &step)? {
-        Some(fault) => {
-            judged.bad = Some(BadCommand {
-                name: step.id,
-                fault,
-            });
-            Ok(())
-        }
+    match fault_of_step(alloc, terms, judged, step)? {
+        Some(fault) => judged.set_bad(alloc, step.id, fault),
         None => {
-            judged.add(step.id.bytes(), step.sides)?;
+            judged.add(step.id, step.sides)?;
             Ok(())
         }
     }
@@ -46,23 +40,22 @@ fn judge_step<T: Terms>(
 
 // A conclusion after the steps before it, none of which is bad.
 fn judge_conclusion<T: Terms>(
+    alloc: Global,
     terms: &T,
     problem: &Problem,
     judged: &mut Judged,
-    name: Text,
+    name: &[u8],
     id: &[u8],
 ) -> Result<(), AllocError>
     requires judged { IsJudged (length (T.trees terms.now)) judged.old }
     requires good { judged.old.bad ≡ None }
     requires rewrites { HaveIds (length (T.trees terms.now)) problem.now.rewrites }
-    ensures ok { OnOk result (progress_of (T.trees terms.now) judged.new ≡ progress (stated (T.trees terms.now) problem.now) (progress_of (T.trees terms.now) judged.old) (Conclude name id.now)) }
+    ensures ok { OnOk result (progress_of (T.trees terms.now) judged.new ≡ progress (stated (T.trees terms.now) problem.now) (progress_of (T.trees terms.now) judged.old) (Conclude name.now id.now)) }
     ensures err { OnErr result (progress_of (T.trees terms.now) judged.new ≡ progress_of (T.trees terms.now) judged.old) }
     ensures kept { IsJudged (length (T.trees terms.now)) judged.new }
 {
-    let Some(k) = problem.find(name.bytes()) else {
-        let fault = StepFault::NoSuchRewrite;
-        judged.bad = Some(BadCommand { name, fault });
-        return Ok(());
+    let Some(k) = problem.find(name) else {
+        return judged.set_bad(alloc, name, StepFault::NoSuchRewrite);
     };
     let rewrite = problem.rewrites.get(k);
     let sides = Sides {
@@ -70,8 +63,7 @@ fn judge_conclusion<T: Terms>(
         right: rewrite.right,
     };
     if let Some(fault) = fault_of_conclusion(terms, judged, sides, id) {
-        judged.bad = Some(BadCommand { name, fault });
-        return Ok(());
+        return judged.set_bad(alloc, name, fault);
     }
     judged.concluded.insert(k)?;
     Ok(())
@@ -79,17 +71,17 @@ fn judge_conclusion<T: Terms>(
 
 /// Judges one command more of a proof. Behind a command that is not valid nothing counts. Where memory
 /// is wanting, nothing changes.
-pub fn judge<T: Terms>(
+pub fn judge<E: Expr, T: Terms>(
     alloc: Global,
     terms: &T,
     problem: &Problem,
     judged: &mut Judged,
-    command: ReadCommand,
+    command: &ReadCommand<'_, E>,
 ) -> Result<(), AllocError>
     requires judged { IsJudged (length (T.trees terms.now)) judged.old }
-    requires command { CommandHasIds (length (T.trees terms.now)) command }
+    requires command { CommandHasIds (length (T.trees terms.now)) command.now }
     requires rewrites { HaveIds (length (T.trees terms.now)) problem.now.rewrites }
-    ensures ok { OnOk result (progress_of (T.trees terms.now) judged.new ≡ progress (stated (T.trees terms.now) problem.now) (progress_of (T.trees terms.now) judged.old) (command_at (T.trees terms.now) command)) }
+    ensures ok { OnOk result (progress_of (T.trees terms.now) judged.new ≡ progress (stated (T.trees terms.now) problem.now) (progress_of (T.trees terms.now) judged.old) (command_at E.tree (T.trees terms.now) command.now)) }
     ensures err { OnErr result (progress_of (T.trees terms.now) judged.new ≡ progress_of (T.trees terms.now) judged.old) }
     ensures kept { IsJudged (length (T.trees terms.now)) judged.new }
 {
@@ -99,7 +91,7 @@ pub fn judge<T: Terms>(
     match command {
         ReadCommand::Step(step) => judge_step(alloc, terms, problem, judged, step),
         ReadCommand::Conclude { name, id } => {
-            judge_conclusion(terms, problem, judged, name, id.bytes())
+            judge_conclusion(alloc, terms, problem, judged, name, id)
         }
     }
 }

@@ -1,9 +1,9 @@
 ghost use Rattle.std.specs.Prelude.{◌≡◌, map, bytes_eq};
-ghost use Rattle.rare_check.specs.Names.{is_among, is_reserved, is_table_word};
+ghost use Rattle.rare_check.specs.Names.{is_among, is_reserved, is_theory_word};
 
 /// The words of the theories and of sorts, and `bv`, which begins literals: no text may declare them
 /// (SMT-LIB 2.6, theories Core, Ints, ArraysEx and FixedSizeBitVectors, logic QF_BV).
-pub const TABLE_WORDS: [&str; 56] = [
+pub const THEORY_WORDS: [&str; 56] = [
     "true", "false", "not", "=>", "xor", "and", "or", "=", "distinct", "ite", "-", "+", "*", "div",
     "mod", "abs", "<=", "<", ">=", ">", "select", "store", "bvnot", "bvneg", "bvadd", "bvmul",
     "bvand", "bvor", "bvxor", "bvsub", "bvudiv", "bvurem", "bvsdiv", "bvsrem", "bvsmod", "bvshl",
@@ -11,7 +11,8 @@ pub const TABLE_WORDS: [&str; 56] = [
     "bvsle", "bvsgt", "bvsge", "bvcomp", "concat", "Bool", "Int", "Array", "BitVec", "bv",
 ];
 
-/// The words of SMT-LIB 2.6 that no text may declare or bind, beside those that begin with `@` or `.`.
+/// The reserved words of SMT-LIB 2.6 that stand in terms: no text may declare them, nor a name that
+/// begins with `@` or `.`. The names of commands, and `NUMERAL` and its like, may be declared.
 pub const RESERVED_WORDS: [&str; 8] = ["_", "!", "as", "let", "exists", "forall", "match", "par"];
 
 /// Whether the bytes are those of the word.
@@ -33,13 +34,13 @@ fn is_one_of(words: &[&str], name: &[u8]) -> bool
 }
 
 /// Whether the name is a word of the theories or of sorts.
-pub fn is_table_word_name(name: &[u8]) -> bool
-    ensures { result ≡ is_table_word name.now }
+pub fn is_theory_word_name(name: &[u8]) -> bool
+    ensures { result ≡ is_theory_word name.now }
 {
-    is_one_of(&TABLE_WORDS, name)
+    is_one_of(&THEORY_WORDS, name)
 }
 
-/// Whether the name is reserved.
+/// Whether the name is reserved for terms.
 pub fn is_reserved_name(name: &[u8]) -> bool
     ensures { result ≡ is_reserved name.now }
 {

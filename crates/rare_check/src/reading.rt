@@ -104,7 +104,7 @@ fn with_command_of<E: Expr, T: Terms>(
 ///
 /// An error is the first fault of the text, or want of memory. A refusal has the place of the first
 /// byte behind the last good command that is neither blank nor comment. After an error the terms may
-/// have grown; old ids stand.
+/// have grown, and symbols may have been declared; old ids stand.
 pub fn read_problem<T: Terms>(alloc: Global, bytes: &[u8], terms: &mut T) -> Result<Problem, Fault>
     requires short { length bytes.now ≤ 2 ^ 32 - 2 }
     requires none { T.symbols terms.old ≡ [] }

@@ -1,7 +1,7 @@
 ghost use Rattle.std.specs.Prelude.{◌≡◌, ◌+◌, ◌-◌, ◌^◌, ◌<◌, ◌≤◌, [], ◌∷◌, ◌++◌, Some, true, length, position, bytes_eq, slice_get, OnOk, OnErr, IfSome};
 ghost use Rattle.rare_check.specs.Names.{may_declare};
 
-use crate::names::{is_reserved_name, is_table_word_name};
+use crate::names::{is_reserved_name, is_theory_word_name};
 use rare_names::NameTable;
 use std::alloc::{AllocError, Global};
 use std::marker::Model;
@@ -59,16 +59,16 @@ impl Scope {
         }
     }
 
-    /// Whether a text with these names may declare this one: it is not reserved, no word of the
-    /// theories or of sorts, and not declared (SMT-LIB 2.6, sections on symbols and reserved words).
+    /// Whether a text with these names may declare this one: it is not reserved for terms, no word of
+    /// the theories or of sorts, and not declared (SMT-LIB 2.6, sections on symbols and reserved words).
     pub fn may_declare(&self, name: &[u8]) -> bool
         ensures { result ≡ may_declare self.now name.now }
     {
-        !is_reserved_name(name) && !is_table_word_name(name) && !self.symbols.contains(name)
+        !is_reserved_name(name) && !is_theory_word_name(name) && !self.symbols.contains(name)
     }
 
-    #[tactic(auto, using(crate::proofs::Naming::new_name))]
     /// Declares a name that may be declared. Where memory is wanting, the scope stays.
+    #[tactic(auto, using(crate::proofs::Naming::new_name))]
     pub fn declare(&mut self, name: &[u8]) -> Result<(), AllocError>
         requires new { may_declare self.old name.now ≡ true }
         requires room { length self.old < 2 ^ 32 - 1 }

@@ -339,7 +339,11 @@ fn wide_text(alloc: Global, args: usize) -> Result<Text, AllocError> {
 
 #[test]
 fn reads_terms_up_to_the_limits(rt: HostRuntime) -> Result<(), Fail> {
-    for (levels, want) in [(1999, &b"M"[..]), (2000, b"problem 1:1 Unread")] {
+    for (levels, want) in [
+        (1999, &b"M"[..]),
+        (2000, b"problem 1:1 Unread"),
+        (4999, b"problem 1:1 Unread"),
+    ] {
         let (problem, proof) = nested_texts(rt.alloc(), levels)?;
         assert!(rt; problem.bytes().len() <= 100000 && proof.bytes().len() <= 100000);
         let answer = show_answer(rt.alloc(), problem.bytes(), proof.bytes(), b"")?;

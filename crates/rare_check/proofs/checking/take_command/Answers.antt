@@ -33,7 +33,7 @@ returns-in-Ok-judge-clause-ok g c = λ rest.
     let same = problem_kept old new c.args.problem.now c.in-Ok.ensures.grows c.requires.sides in
     let kept = progress_kept old new c.args.judged.now c.in-Ok.ensures.grows c.requires.matched in
     (λ i. answer_from (sym same i) (sym kept i) (put_first (g.E.Expr.tree c.args.e.now) rest))
-    ∙ one_more (stated new c.args.problem.now) (progress_of new c.args.judged.now) (progress_of new c.judge.new.judged) (g.E.Expr.tree c.args.e.now) (command_at new c.in-Ok.command) rest
+    ∙ one_more (stated new c.args.problem.now) (progress_of new c.args.judged.now) (progress_of new c.judge.new.judged) (g.E.Expr.tree c.args.e.now) (command_at g.E.Expr.tree new c.in-Ok.command) rest
     c.in-Ok.ensures.read.1 c.in-Ok-judge.ensures.ok
 
 pub returns-in-Ok-judge-clause-held : goal.returns-in-Ok-judge-clause-held
@@ -41,7 +41,7 @@ returns-in-Ok-judge-clause-held g c =
     let old = g.T.Terms.trees c.args.terms.now in
     let new = g.T.Terms.trees c.read_command.new.terms in
     let held = held_kept old new (g.T.Terms.symbols c.args.terms.now) (g.T.Terms.symbols c.read_command.new.terms) c.args.problem.now c.args.judged.now c.in-Ok.ensures.grows c.in-Ok.ensures.symbols c.requires in
-    held_more new (g.T.Terms.symbols c.read_command.new.terms) c.args.problem.now c.args.judged.now c.judge.new.judged (command_at new c.in-Ok.command) held c.in-Ok-judge.ensures.kept c.in-Ok-judge.ensures.ok
+    held_more new (g.T.Terms.symbols c.read_command.new.terms) c.args.problem.now c.args.judged.now c.judge.new.judged (command_at g.E.Expr.tree new c.in-Ok.command) held c.in-Ok-judge.ensures.kept c.in-Ok-judge.ensures.ok
 
 pub returns-in-Ok-judge-clause-problem : goal.returns-in-Ok-judge-clause-problem
 returns-in-Ok-judge-clause-problem g c =
