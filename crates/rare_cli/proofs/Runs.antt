@@ -5,26 +5,22 @@ use Rattle.rare_base.specs.declared.answers.Status.TheVariants as status
 use Rattle.rare_base.specs.Outside.{Rose}
 use Rattle.rare_base.specs.declared.outside.ReadError.{ReadError}
 use Rattle.rare_base.specs.declared.outside.ReadError.TheVariants as read
-use Rattle.rare_base.specs.declared.answers.Fault.{Fault}
-use Rattle.rare_base.specs.declared.answers.Fault.TheVariants as fault
-use Rattle.rare_check.specs.Checking.{Checking, start, answer, Refuses, ValidAreTrue}
+use Rattle.rare_check.specs.Checking.{Checking, start, answer, ValidAreTrue}
 use Rattle.rare_check.specs.declared.problem.Rewrite.{Rewrite}
 use Rattle.rare_check.specs.declared.problem.Problem.{Problem}
 use Rattle.rare_check.specs.Stated.{stated, stated_rewrite}
-use Rattle.rare_check.proofs.Starting.{answer_start}
 use Rattle.rare_check.specs.Verdicts.{checked}
 use Rattle.rare_check.specs.declared.report.Report.{Report}
 use Rattle.rare_check.specs.ProblemText.{StatedProblem}
 use Rattle.rare_term.specs.declared.tree.Tree.{Tree}
 use Rattle.rare_cli.specs.declared.outcome.File.{File}
-use Rattle.rare_cli.specs.declared.outcome.File.TheVariants as file
 use Rattle.rare_cli.specs.declared.outcome.Stop.{Stop}
 use Rattle.rare_cli.specs.declared.outcome.Stop.TheVariants.{BadWords, ReadFault, TooLong, Refused, Memory}
 use Rattle.rare_cli.specs.declared.outcome.Answer.{Answer}
 use Rattle.rare_cli.specs.WordForms.{Names, form_of}
 use Rattle.rare_cli.specs.Outcomes.{Outcome, stop_outcome, report_lines, report_text, report_status, report_outcome}
 use Rattle.rare_cli.specs.Causes.{Files, IsQuiet, Tells, IsLong, Allowed, bad_words, stopped, answered}
-use Rattle.rare_cli.specs.Prepared.{answer_outcome, Becomes, IsTextOf, IsReportOn, IsChecked, outcome_in, stop_of_read, stop_of_fault}
+use Rattle.rare_cli.specs.Prepared.{answer_outcome, Becomes, IsTextOf, IsChecked, outcome_in, stop_of_read}
 
 -- a text under a name, whether it is told or not
 some_long : (told : Option (List ℕ)) (n : ℕ) → IfSome told (λ all. n < length all) → (text : List ℕ) × Tells told text × (n < length text)
@@ -48,19 +44,12 @@ unread files name f e stop is failed long quiet = let P : Stop → Type 0 = λ s
     by read.TooLong failed long quiet = (refl, quiet (λ x. cc), is_long _ (long refl))
     by read.Memory failed long quiet = tt
 
--- the faults of a proof
-pub faulty : (p : StatedProblem) (proof : List ℕ) (x : Fault) (stop : Stop) → stop ≡ stop_of_fault file.Proof x → Refuses x (checked p proof) → IsReportOn p proof (Err stop)
-faulty p proof x stop is refuses = let P : Stop → Type 0 = λ s. IsReportOn p proof (Err s) in subst P (sym is) (by x refuses)
-  where
-    by : (x : Fault) → Refuses x (checked p proof) → IsReportOn p proof (Err (stop_of_fault file.Proof x))
-    by (fault.Refused place reason) refuses = (refl, refuses)
-    by fault.Memory refuses = tt
-
-pub report_started : (c : Checking) (p : StatedProblem) (proof : List ℕ) (report : Report) → c ≡ start p → answer c proof ≡ Ok report → ValidAreTrue c.problem report →
-    (checked p proof ≡ Ok report) × ValidAreTrue p report
-report_started c p proof report new is valid =
+-- the report of a new checker
+pub report_started : (c : Checking) (p : StatedProblem) (proof : List ℕ) (report : Report) → c ≡ start p → answer c proof ≡ checked p proof → answer c proof ≡ Ok report →
+    ValidAreTrue c.problem report → (checked p proof ≡ Ok report) × ValidAreTrue p report
+report_started c p proof report new whole is valid =
     let P : Checking → Type 0 = λ c. ValidAreTrue c.problem report in
-    (sym (ap (λ c. answer c proof) new ∙ answer_start p proof) ∙ is, subst P new valid)
+    (sym whole ∙ is, subst P new valid)
 
 -- what is written of a problem speaks of the names of its rewrites alone
 names_stated : (ts : List Tree) (rewrites : List Rewrite) → map (λ r. r.name) (map (stated_rewrite ts) rewrites) ≡ map (λ r. r.name) rewrites

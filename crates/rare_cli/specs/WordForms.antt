@@ -23,3 +23,11 @@ form_of (command ∷ rules ∷ problem ∷ proof ∷ []) =
     if bytes_eq command (codes "check") && (bytes_eq rules (codes "-") && (is_file problem && is_file proof))
     then Some (record { problem = problem; proof = proof }) else None
 form_of words = None
+
+abbrev pub files_of : Option Names → List (List ℕ)
+files_of None = []
+files_of (Some names) = names.problem ∷ names.proof ∷ []
+
+-- the files that the words give, in their order
+abbrev pub files_in : List (List ℕ) → List (List ℕ)
+files_in words = files_of (form_of words)

@@ -1,12 +1,13 @@
-ghost use Rattle.std.specs.Prelude.{◌≡◌, ◌≢◌, ◌⊎◌, ◌↔◌, ℕ, ◌+◌, ◌-◌, ◌^◌, ◌<◌, ◌≤◌, List, [], length, Some, None, IfOk, IfErr};
+ghost use Rattle.std.specs.Prelude.{◌≡◌, ◌≢◌, ◌⊎◌, ◌↔◌, ℕ, ◌+◌, ◌-◌, ◌^◌, ◌<◌, ◌≤◌, List, [], ◌∷◌, length, Some, None, IfOk, IfErr, OnOk};
 ghost use Rattle.rare_base.specs.Outside.{Rose, grown};
+ghost use Rattle.rare_base.specs.Reads.{ReadInTurn, ReadToEnd};
 ghost use Rattle.rare_check.specs.TermText.{constants};
 ghost use Rattle.rare_check.specs.Stated.{stated, HaveIds};
 ghost use Rattle.rare_check.specs.Checking.{answer, Refuses, ValidAreTrue};
 ghost use Rattle.rare_base.specs.declared.answers.Place.{Place};
 ghost use Rattle.rare_base.specs.declared.answers.Reason.{Reason};
 ghost use Rattle.rare_cli.specs.declared.outcome.File.{File};
-ghost use Rattle.rare_cli.specs.WordForms.{Names, form_of};
+ghost use Rattle.rare_cli.specs.WordForms.{Names, form_of, files_in};
 ghost use Rattle.rare_cli.specs.Outcomes.{Outcome, outcome_of, stop_line, stop_outcome};
 ghost use Rattle.rare_cli.specs.Causes.{library, sink, Allowed, Delivers, Takes, Cuts, Stops, Reports};
 ghost use Rattle.rare_cli.specs.Prepared.{outcome_in, Becomes, IsTextOf, IsProblemOf, IsReportOn, IsJudged, IsChecked};
@@ -30,6 +31,8 @@ fn read_text<L: Library>(
     ensures text { IsTextOf (library (L.text files.old) (L.faults files.old) (L.faults files.new)) name.now file result }
     ensures texts { (w : List ℕ) → L.text files.new w ≡ L.text files.old w }
     ensures later { (w : List ℕ) → L.faults files.old w ≤ L.faults files.new w }
+    ensures reads { ReadInTurn (L.reads files.old) (L.reads files.new) (name.now ∷ []) }
+    ensures end { OnOk result (ReadToEnd (L.reads files.old) (L.reads files.new) name.now) }
 {
     match read_whole(alloc, files, name) {
         Ok(text) => Ok(text),
@@ -50,6 +53,8 @@ fn read_problem_file<L: Library>(
     ensures problem { IsProblemOf (library (L.text files.old) (L.faults files.old) (L.faults files.new)) name.now terms.new.trees result }
     ensures texts { (w : List ℕ) → L.text files.new w ≡ L.text files.old w }
     ensures later { (w : List ℕ) → L.faults files.old w ≤ L.faults files.new w }
+    ensures reads { ReadInTurn (L.reads files.old) (L.reads files.new) (name.now ∷ []) }
+    ensures end { OnOk result (ReadToEnd (L.reads files.old) (L.reads files.new) name.now) }
 {
     let text = read_text(alloc, files, name, File::Problem)?;
     match read_problem(alloc, text.bytes(), terms) {
@@ -101,6 +106,7 @@ fn check<L: Library>(alloc: Global, names: FileNames<'_>, files: &mut L) -> Resu
     ensures checked { IsChecked (library (L.text files.old) (L.faults files.old) (L.faults files.new)) (record { problem = names.entry.problem.now; proof = names.entry.proof.now }) result }
     ensures texts { (w : List ℕ) → L.text files.new w ≡ L.text files.old w }
     ensures later { (w : List ℕ) → L.faults files.old w ≤ L.faults files.new w }
+    ensures reads { ReadInTurn (L.reads files.old) (L.reads files.new) (names.entry.problem.now ∷ names.entry.proof.now ∷ []) }
 {
     let mut terms = Plain::new(alloc);
     let problem = read_problem_file(alloc, files, names.problem, &mut terms)?;
@@ -113,6 +119,7 @@ fn prepare<L: Library>(alloc: Global, words: &Texts, files: &mut L) -> Result<An
     ensures allowed { Allowed (library (L.text files.old) (L.faults files.old) (L.faults files.new)) words.now (outcome_in result) }
     ensures texts { (w : List ℕ) → L.text files.new w ≡ L.text files.old w }
     ensures later { (w : List ℕ) → L.faults files.old w ≤ L.faults files.new w }
+    ensures reads { ReadInTurn (L.reads files.old) (L.reads files.new) (files_in words.now) }
 {
     match form(words.items()) {
         Some(names) => check(alloc, names, files),
@@ -154,6 +161,7 @@ fn run_all<L: Library, S: Sink>(alloc: Global, words: &Texts, files: &mut L, out
         × Delivers o result (sink (S.written out.old) (S.written out.new) (S.faults out.old) (S.faults out.new)) }
     ensures texts { (w : List ℕ) → L.text files.new w ≡ L.text files.old w }
     ensures later { (w : List ℕ) → L.faults files.old w ≤ L.faults files.new w }
+    ensures reads { ReadInTurn (L.reads files.old) (L.reads files.new) (files_in words.now) }
 {
     match prepare(alloc, words, files) {
         Ok(answer) => deliver(out, answer.text.bytes(), answer.status),
@@ -164,8 +172,8 @@ fn run_all<L: Library, S: Sink>(alloc: Global, words: &Texts, files: &mut L, out
 /// Does what the words after the program's name say, and gives the status to end with.
 ///
 /// The words that are a form are `check - PROBLEM PROOF`, where neither name begins with `--`. The
-/// files are read whole, the problem first, and a refusal of the problem comes before the proof is
-/// opened. All of an answer stands before its first byte is written.
+/// files are read whole, the problem first, and what is wrong with the problem comes before what is
+/// wrong with the proof. All of an answer stands before its first byte is written.
 pub fn run<L: Library, S: Sink>(alloc: Global, words: &Texts, files: &mut L, out: &mut S) -> Status
     requires files { (w : List ℕ) → L.faults files.old w < 2 ^ 64 - 1 }
     requires out { S.faults out.old < 2 ^ 64 - 1 }
@@ -198,6 +206,9 @@ pub fn run<L: Library, S: Sink>(alloc: Global, words: &Texts, files: &mut L, out
     ensures texts { (w : List ℕ) → L.text files.new w ≡ L.text files.old w }
     // No count of failed reads falls.
     ensures later { (w : List ℕ) → L.faults files.old w ≤ L.faults files.new w }
+    // The reads are of the files that the words give, in turn: each byte once, of a file at most the first 2^28 + 1 bytes, and
+    // each file to its end before the next is opened.
+    ensures reads { ReadInTurn (L.reads files.old) (L.reads files.new) (files_in words.now) }
 {
     run_all(alloc, words, files, out)
 }

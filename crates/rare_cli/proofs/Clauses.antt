@@ -107,70 +107,70 @@ module _ (files : Files) (words : List (List ℕ)) where
 
   module _ (out : Written) where
     -- what a status says
-    abbrev Row : Status → Type 0
-    Row status.AllGood = Reports files words out status.AllGood
-    Row status.NotAll = Reports files words out status.NotAll
-    Row status.BadWords = (form_of words ≡ None) × Takes out (stop_line BadWords)
-    Row status.BadText = (file : File) × (place : Place) × (reason : Reason) × Stops files words out (Refused file place reason)
-    Row status.ReadFault = (file : File) × Stops files words out (ReadFault file)
-    Row status.WriteFault = (o : Outcome) × Allowed files words o × Cuts out o.text
-    Row status.Memory = Stops files words out Memory
-    Row status.TooLong = (file : File) × Stops files words out (TooLong file)
+    abbrev Says : Status → Type 0
+    Says status.AllGood = Reports files words out status.AllGood
+    Says status.NotAll = Reports files words out status.NotAll
+    Says status.BadWords = (form_of words ≡ None) × Takes out (stop_line BadWords)
+    Says status.BadText = (file : File) × (place : Place) × (reason : Reason) × Stops files words out (Refused file place reason)
+    Says status.ReadFault = (file : File) × Stops files words out (ReadFault file)
+    Says status.WriteFault = (o : Outcome) × Allowed files words o × Cuts out o.text
+    Says status.Memory = Stops files words out Memory
+    Says status.TooLong = (file : File) × Stops files words out (TooLong file)
 
-    row_of_stop : (stop : Stop) → Stops files words out stop → Row (stop_status stop)
-    row_of_stop BadWords s = absurd s.cause
-    row_of_stop (ReadFault file) s = (file, s)
-    row_of_stop (TooLong file) s = (file, s)
-    row_of_stop (Refused file place reason) s = (file, place, reason, s)
-    row_of_stop Memory s = s
+    clause_of_stop : (stop : Stop) → Stops files words out stop → Says (stop_status stop)
+    clause_of_stop BadWords s = absurd s.cause
+    clause_of_stop (ReadFault file) s = (file, s)
+    clause_of_stop (TooLong file) s = (file, s)
+    clause_of_stop (Refused file place reason) s = (file, place, reason, s)
+    clause_of_stop Memory s = s
 
-    row_of_report : (names : Names) → form_of words ≡ Some names → (p : StatedProblem) (report : Report) → IsReport files names p report → Takes out (report_text p report) → Row (report_status report)
-    row_of_report names form p (Invalid name fault) holds took =
+    clause_of_report : (names : Names) → form_of words ≡ Some names → (p : StatedProblem) (report : Report) → IsReport files names p report → Takes out (report_text p report) → Says (report_status report)
+    clause_of_report names form p (Invalid name fault) holds took =
         record { names = names; form = form; problem = p; report = Invalid name fault; holds = holds; status = refl; written = took }
-    row_of_report names form p (Checked verdicts trusted) holds took = by (list_all is_valid verdicts) refl
+    clause_of_report names form p (Checked verdicts trusted) holds took = by (list_all is_valid verdicts) refl
       where
-        by : (b : Bool) → list_all is_valid verdicts ≡ b → Row (if b then status.AllGood else status.NotAll)
+        by : (b : Bool) → list_all is_valid verdicts ≡ b → Says (if b then status.AllGood else status.NotAll)
         by true e = record { names = names; form = form; problem = p; report = Checked verdicts trusted; holds = holds; status = ap (λ b. if b then status.AllGood else status.NotAll) (sym e); written = took }
         by false e = record { names = names; form = form; problem = p; report = Checked verdicts trusted; holds = holds; status = ap (λ b. if b then status.AllGood else status.NotAll) (sym e); written = took }
 
-    pub row : (o : Outcome) (result : Status) → Allowed files words o → Delivers o result out → Row result
-    row o result a (cut is cuts) = subst Row (sym is) (o, a, cuts)
-    row o result (bad_words none e) (whole is took) =
-        subst Row (sym (is ∙ ap (λ x. x.status) e)) (none, subst (Takes out) (ap (λ x. x.text) e) took)
-    row o result (stopped names form stop cause e) (whole is took) =
-        subst Row (sym (is ∙ ap (λ x. x.status) e))
-        (row_of_stop stop (record { names = names; form = form; cause = cause; written = subst (Takes out) (ap (λ x. x.text) e) took }))
-    row o result (answered names form p report holds e) (whole is took) =
-        subst Row (sym (is ∙ ap (λ x. x.status) e)) (row_of_report names form p report holds (subst (Takes out) (ap (λ x. x.text) e) took))
+    pub says : (o : Outcome) (result : Status) → Allowed files words o → Delivers o result out → Says result
+    says o result a (cut is cuts) = subst Says (sym is) (o, a, cuts)
+    says o result (bad_words none e) (whole is took) =
+        subst Says (sym (is ∙ ap (λ x. x.status) e)) (none, subst (Takes out) (ap (λ x. x.text) e) took)
+    says o result (stopped names form stop cause e) (whole is took) =
+        subst Says (sym (is ∙ ap (λ x. x.status) e))
+        (clause_of_stop stop (record { names = names; form = form; cause = cause; written = subst (Takes out) (ap (λ x. x.text) e) took }))
+    says o result (answered names form p report holds e) (whole is took) =
+        subst Says (sym (is ∙ ap (λ x. x.status) e)) (clause_of_report names form p report holds (subst (Takes out) (ap (λ x. x.text) e) took))
 
     module _ (o : Outcome) (result : Status) (a : Allowed files words o) (d : Delivers o result out) where
-      pub row_bad_words : result ≡ status.BadWords → (form_of words ≡ None) × (out.after ≡ out.before)
-      row_bad_words s = let r = subst Row s (row o result a d) in (r.0, r.1.quiet)
+      pub clause_bad_words : result ≡ status.BadWords → (form_of words ≡ None) × (out.after ≡ out.before)
+      clause_bad_words s = let r = subst Says s (says o result a d) in (r.0, r.1.quiet)
 
-      pub row_usage : result ≡ status.BadWords → Takes out (stop_line BadWords)
-      row_usage s = let r = subst Row s (row o result a d) in r.1
+      pub clause_usage : result ≡ status.BadWords → Takes out (stop_line BadWords)
+      clause_usage s = let r = subst Says s (says o result a d) in r.1
 
-      pub row_checked : (result ≡ status.AllGood) ⊎ (result ≡ status.NotAll) → Reports files words out result
-      row_checked (inl s) = let P : Status → Type 0 = λ s. Reports files words out s in subst P (sym s) (subst Row s (row o result a d))
-      row_checked (inr s) = let P : Status → Type 0 = λ s. Reports files words out s in subst P (sym s) (subst Row s (row o result a d))
+      pub clause_checked : (result ≡ status.AllGood) ⊎ (result ≡ status.NotAll) → Reports files words out result
+      clause_checked (inl s) = let P : Status → Type 0 = λ s. Reports files words out s in subst P (sym s) (subst Says s (says o result a d))
+      clause_checked (inr s) = let P : Status → Type 0 = λ s. Reports files words out s in subst P (sym s) (subst Says s (says o result a d))
 
-      pub row_refused : result ≡ status.BadText → (file : File) × (place : Place) × (reason : Reason) × Stops files words out (Refused file place reason)
-      row_refused s = subst Row s (row o result a d)
+      pub clause_refused : result ≡ status.BadText → (file : File) × (place : Place) × (reason : Reason) × Stops files words out (Refused file place reason)
+      clause_refused s = subst Says s (says o result a d)
 
-      pub row_too_long : result ≡ status.TooLong → (file : File) × Stops files words out (TooLong file)
-      row_too_long s = subst Row s (row o result a d)
+      pub clause_too_long : result ≡ status.TooLong → (file : File) × Stops files words out (TooLong file)
+      clause_too_long s = subst Says s (says o result a d)
 
-      pub row_read_fault : result ≡ status.ReadFault → (file : File) × Stops files words out (ReadFault file)
-      row_read_fault s = subst Row s (row o result a d)
+      pub clause_read_fault : result ≡ status.ReadFault → (file : File) × Stops files words out (ReadFault file)
+      clause_read_fault s = subst Says s (says o result a d)
 
-      pub row_write_fault : result ≡ status.WriteFault → (o : Outcome) × Allowed files words o × Cuts out o.text
-      row_write_fault s = subst Row s (row o result a d)
+      pub clause_write_fault : result ≡ status.WriteFault → (o : Outcome) × Allowed files words o × Cuts out o.text
+      clause_write_fault s = subst Says s (says o result a d)
 
-      pub row_memory : result ≡ status.Memory → Takes out (stop_line Memory)
-      row_memory s = let P : Status → Type 0 = Row in let r : Row status.Memory = subst P s (row o result a d) in r.written
+      pub clause_memory : result ≡ status.Memory → Takes out (stop_line Memory)
+      clause_memory s = let P : Status → Type 0 = Says in let r : Says status.Memory = subst P s (says o result a d) in r.written
 
-      pub row_no_form : out.before < 2 ^ 64 - 1 → form_of words ≡ None → out.after ≡ out.before → result ≡ status.BadWords
-      row_no_form room none same = by a d
+      pub clause_no_form : out.before < 2 ^ 64 - 1 → form_of words ≡ None → out.after ≡ out.before → result ≡ status.BadWords
+      clause_no_form room none same = by a d
         where
           by : Allowed files words o → Delivers o result out → result ≡ status.BadWords
           by a (cut is cuts) = absurd (not_rose out.before out.after room same cuts.failed)
@@ -178,10 +178,10 @@ module _ (files : Files) (words : List (List ℕ)) where
           by (stopped names form stop cause e) (whole is took) = absurd (none-some names (sym none ∙ form))
           by (answered names form p report holds e) (whole is took) = absurd (none-some names (sym none ∙ form))
 
-      pub row_told : (names : Names) (problem proof : List ℕ) → form_of words ≡ Some names → files.told names.problem ≡ Some problem → files.told names.proof ≡ Some proof →
+      pub clause_told : (names : Names) (problem proof : List ℕ) → form_of words ≡ Some names → files.told names.problem ≡ Some problem → files.told names.proof ≡ Some proof →
           ((w : List ℕ) → Rose (files.before w) (files.after w) → ⊥) → (Rose out.before out.after → ⊥) → (result ≢ status.Memory) →
           (result ≡ (outcome_of problem proof).status) × (out.now ≡ grown out.was (outcome_of problem proof).text)
-      row_told names problem proof form tp tq calm still mem = by d (exact names problem proof tp tq calm o form a)
+      clause_told names problem proof form tp tq calm still mem = by d (exact names problem proof tp tq calm o form a)
         where
           by : Delivers o result out → (o ≡ outcome_of problem proof) ⊎ (o ≡ stop_outcome Memory) →
               (result ≡ (outcome_of problem proof).status) × (out.now ≡ grown out.was (outcome_of problem proof).text)
