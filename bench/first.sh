@@ -1,6 +1,7 @@
 #!/bin/sh
 # Times `check` on proofs of 1,000, 10,000 and 100,000 steps by reflexivity, and prints the times and
-# their ratios. Each time is the least of five runs, in milliseconds.
+# their ratios. Each time is the least of five runs, in milliseconds. Needs awk, mktemp and a date that
+# knows nanoseconds (%N).
 root=$(cd -- "$(dirname -- "$0")/.." && pwd) || exit 1
 folder=$(mktemp -d) || exit 1
 trap 'rm -rf -- "$folder"' EXIT
