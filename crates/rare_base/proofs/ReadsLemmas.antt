@@ -1,7 +1,7 @@
 -- Reads that follow one another.
-use Rattle.std.proofs.Common.{◌≡◌, ◌≢◌, ℕ, zero, suc, ◌+◌, ◌-◌, ◌^◌, ◌≤◌, min, List, [], ◌∷◌, ◌++◌, map, Option, Some, None, IfSome, refl, sym, ◌∙◌, ap, subst, append_assoc}
+use Rattle.std.proofs.Common.{◌≡◌, ◌≢◌, ℕ, zero, suc, ◌+◌, ◌≤◌, List, [], ◌∷◌, ◌++◌, map, Option, Some, None, IfSome, refl, sym, ◌∙◌, ap, subst, append_assoc}
 use Rattle.std.specs.List.{last_or}
-use Rattle.rare_base.specs.Reads.{Read, Added, AsksNext, Follows, InTurn, FoundEnd, ReadInTurn, ReadToEnd}
+use Rattle.rare_base.specs.Reads.{Read, read_of, room_at, most_file_bytes, Added, AsksNext, Follows, InTurn, FoundEnd, ReadInTurn, ReadToEnd}
 use Rattle.std.proofs.lemmas.List.{append-nil}
 
 -- ---- reads that were told
@@ -77,11 +77,8 @@ then_in_turn before between after name names h h' = record {
 abbrev pub Reaches : List ℕ → List Read → ℕ → Type 0
 Reaches name reads at = (more : List Read) → InTurn (name ∷ []) at more → InTurn (name ∷ []) 0 (reads ++ more)
 
-abbrev pub read_by : List ℕ → ℕ → ℕ → Option ℕ → Read
-read_by name at room gave = record { name = name; at = at; room = room; gave = gave }
-
-pub asks_next : (name : List ℕ) (at room : ℕ) (gave : Option ℕ) → at ≤ 2 ^ 28 → room ≡ min (2 ^ 16) (2 ^ 28 + 1 - at) → IfSome gave (λ n. n ≤ room) →
-    AsksNext name at (read_by name at room gave)
+pub asks_next : (name : List ℕ) (at room : ℕ) (gave : Option ℕ) → at ≤ most_file_bytes → room ≡ room_at at → IfSome gave (λ n. n ≤ room) →
+    AsksNext name at (read_of name at room gave)
 asks_next name at room gave within piece bound = record { file = refl; place = refl; within = within; piece = piece; bound = bound }
 
 -- reads up to here
@@ -89,21 +86,21 @@ pub reaches_here : (name : List ℕ) (reads : List Read) (at : ℕ) → Reaches 
 reaches_here name reads at h = subst (InTurn (name ∷ []) 0) (append-nil reads) (h [] tt)
 
 -- one read more, that gave no byte or failed
-pub reaches_end : (name : List ℕ) (reads : List Read) (at room : ℕ) → Reaches name reads at → AsksNext name at (read_by name at room (Some 0)) →
-    InTurn (name ∷ []) 0 (reads ++ read_by name at room (Some 0) ∷ [])
-reaches_end name reads at room h next = h (read_by name at room (Some 0) ∷ []) (next, tt)
+pub reaches_end : (name : List ℕ) (reads : List Read) (at room : ℕ) → Reaches name reads at → AsksNext name at (read_of name at room (Some 0)) →
+    InTurn (name ∷ []) 0 (reads ++ read_of name at room (Some 0) ∷ [])
+reaches_end name reads at room h next = h (read_of name at room (Some 0) ∷ []) (next, tt)
 
-pub reaches_failure : (name : List ℕ) (reads : List Read) (at room : ℕ) → Reaches name reads at → AsksNext name at (read_by name at room None) →
-    InTurn (name ∷ []) 0 (reads ++ read_by name at room None ∷ [])
-reaches_failure name reads at room h next = h (read_by name at room None ∷ []) (next, refl)
+pub reaches_failure : (name : List ℕ) (reads : List Read) (at room : ℕ) → Reaches name reads at → AsksNext name at (read_of name at room None) →
+    InTurn (name ∷ []) 0 (reads ++ read_of name at room None ∷ [])
+reaches_failure name reads at room h next = h (read_of name at room None ∷ []) (next, refl)
 
 -- one read more, that gave bytes
-pub reaches_on : (name : List ℕ) (reads : List Read) (at room n : ℕ) → Reaches name reads at → AsksNext name at (read_by name at room (Some n)) → n ≢ 0 →
-    Reaches name (reads ++ read_by name at room (Some n) ∷ []) (at + n)
+pub reaches_on : (name : List ℕ) (reads : List Read) (at room n : ℕ) → Reaches name reads at → AsksNext name at (read_of name at room (Some n)) → n ≢ 0 →
+    Reaches name (reads ++ read_of name at room (Some n) ∷ []) (at + n)
 reaches_on name reads at room zero h next some more m = absurd (some refl)
 reaches_on name reads at room (suc n) h next some more m =
-    let e = append_assoc reads (read_by name at room (Some (suc n)) ∷ []) more in
-    subst (InTurn (name ∷ []) 0) (sym e) (h (read_by name at room (Some (suc n)) ∷ more) (next, m))
+    let e = append_assoc reads (read_of name at room (Some (suc n)) ∷ []) more in
+    subst (InTurn (name ∷ []) 0) (sym e) (h (read_of name at room (Some (suc n)) ∷ more) (next, m))
 
 last_appended : {A : Type 0} (o : Option A) (xs : List A) (x : A) → last_or o (xs ++ x ∷ []) ≡ Some x
 last_appended o [] x = refl
@@ -113,6 +110,6 @@ gave_appended : (reads : List Read) (r : Read) → map (λ r. r.gave) (reads ++ 
 gave_appended [] r = refl
 gave_appended (s ∷ reads) r = ap (λ gs. s.gave ∷ gs) (gave_appended reads r)
 
-pub found_end : (name : List ℕ) (reads : List Read) (at room : ℕ) → FoundEnd (reads ++ read_by name at room (Some 0) ∷ [])
+pub found_end : (name : List ℕ) (reads : List Read) (at room : ℕ) → FoundEnd (reads ++ read_of name at room (Some 0) ∷ [])
 found_end name reads at room =
-    ap (last_or None) (gave_appended reads (read_by name at room (Some 0))) ∙ last_appended None (map (λ r. r.gave) reads) (Some 0)
+    ap (last_or None) (gave_appended reads (read_of name at room (Some 0))) ∙ last_appended None (map (λ r. r.gave) reads) (Some 0)

@@ -3,7 +3,7 @@ use Rattle.std.specs.Prelude.{ℕ, List, codes}
 use Rattle.rare_base.specs.declared.answers.Status.{Status}
 use Rattle.rare_base.specs.declared.answers.Status.TheVariants.{AllGood, NotAll, BadWords, BadText, ReadFault, WriteFault, Memory, TooLong}
 use Rattle.rare_base.specs.declared.answers.Reason.{Reason}
-use Rattle.rare_base.specs.declared.answers.Reason.TheVariants.{Unread}
+use Rattle.rare_base.specs.declared.answers.Reason.TheVariants.{Unbalanced, BadCharacter, OpenString, OpenSymbol, TooDeep, Unread}
 use Rattle.rare_base.specs.declared.answers.Place.{Place}
 
 abbrev pub number_of : Status → ℕ
@@ -17,6 +17,11 @@ number_of Memory = 6
 number_of TooLong = 7
 
 abbrev pub word_of : Reason → List ℕ
+word_of Unbalanced = codes "Unbalanced"
+word_of BadCharacter = codes "BadCharacter"
+word_of OpenString = codes "OpenString"
+word_of OpenSymbol = codes "OpenSymbol"
+word_of TooDeep = codes "TooDeep"
 word_of Unread = codes "Unread"
 
 -- where and why a text is refused

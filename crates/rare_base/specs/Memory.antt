@@ -1,9 +1,13 @@
 -- What a library and a sink in memory hold.
-use Rattle.std.specs.Prelude.{ℕ, ◌-◌, min, nat_eq, ◌||◌, List, length, Option, Some, None, option_map, if◌then◌else◌}
+use Rattle.std.specs.Prelude.{ℕ, ◌-◌, ◌^◌, min, nat_eq, ◌||◌, List, length, Option, Some, None, option_map, if◌then◌else◌}
 use Rattle.rare_base.specs.declared.memory.NamedText.{NamedText}
 use Rattle.rare_base.specs.declared.memory.MemoryLibrary.{MemoryLibrary}
 use Rattle.rare_base.specs.declared.memory.MemorySink.{MemorySink}
 use Rattle.rare_base.specs.MemoryTexts.{text_named, is_failing}
+
+-- where a count of calls ends, and stays
+abbrev pub most_calls : ℕ
+most_calls = 2 ^ 64 - 1
 
 -- the texts of a library
 abbrev pub texts_of : MemoryLibrary → List NamedText

@@ -9,18 +9,34 @@ pub record Read : Type 0 where
   pub room : ℕ
   pub gave : Option ℕ
 
+abbrev pub read_of : List ℕ → ℕ → ℕ → Option ℕ → Read
+read_of name at room gave = record { name = name; at = at; room = room; gave = gave }
+
 -- these reads came behind those before, where the reads are still told
 abbrev pub Added : Option (List Read) → Option (List Read) → List Read → Type 0
 Added before None reads = Unit {0}
 Added None (Some after) reads = ⊥
 Added (Some before) (Some after) reads = after ≡ before ++ reads
 
--- a read of a file behind its first bytes, of a piece, and of no byte behind the one that shows that the file is too long
+-- the most bytes that a file may have
+abbrev pub most_file_bytes : ℕ
+most_file_bytes = 2 ^ 28
+
+-- the most bytes that one read asks for
+abbrev pub most_read_bytes : ℕ
+most_read_bytes = 2 ^ 16
+
+-- how many bytes the next read asks for behind the first ones of a file: as many as it may, and none behind the one that shows
+-- that the file is too long
+abbrev pub room_at : ℕ → ℕ
+room_at at = min most_read_bytes (most_file_bytes + 1 - at)
+
+-- the next read of a file behind its first bytes
 pub record AsksNext (name : List ℕ) (at : ℕ) (r : Read) : Type 0 where
   pub file : r.name ≡ name
   pub place : r.at ≡ at
-  pub within : at ≤ 2 ^ 28
-  pub piece : r.room ≡ min (2 ^ 16) (2 ^ 28 + 1 - at)
+  pub within : at ≤ most_file_bytes
+  pub piece : r.room ≡ room_at at
   pub bound : IfSome r.gave (λ n. n ≤ r.room)
 
 -- what follows on a read that gave so much: nothing where it failed, and where it gave no byte what follows on the file's end

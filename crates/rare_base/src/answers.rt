@@ -1,3 +1,5 @@
+//! How a run ends, and why a text is refused: the statuses with their numbers, the reasons with their words.
+
 ghost use Rattle.std.specs.Prelude.{◌≡◌};
 ghost use Rattle.rare_base.specs.Answers.{number_of, word_of};
 
@@ -50,8 +52,19 @@ pub struct Place {
 /// Why a text is refused.
 #[derive(Clone, Copy, Debug, PartialEq, Eq)]
 pub enum Reason {
-    /// A command is no expression that is read, has none of the forms that are read, or breaks a
-    /// rule on names, a number of arguments or a limit.
+    /// A `)` without `(`, at it, or the end of the text inside a list, at the outermost open `(`.
+    Unbalanced,
+    /// A byte that fits no expression, at it, or the end of the text inside an atom that is not whole,
+    /// at the atom.
+    BadCharacter,
+    /// The end of the text inside a string, at its first byte.
+    OpenString,
+    /// The end of the text inside a quoted symbol, at its first byte.
+    OpenSymbol,
+    /// More lists within one another than may be nested, at the `(` of the first too many.
+    TooDeep,
+    /// A command has none of the forms that are read, or breaks a rule on names, a number of
+    /// arguments or a limit; at its first byte.
     Unread,
 }
 
@@ -61,6 +74,11 @@ impl Reason {
         ensures { result.now ≡ word_of self.now }
     {
         match self {
+            Reason::Unbalanced => "Unbalanced",
+            Reason::BadCharacter => "BadCharacter",
+            Reason::OpenString => "OpenString",
+            Reason::OpenSymbol => "OpenSymbol",
+            Reason::TooDeep => "TooDeep",
             Reason::Unread => "Unread",
         }
     }

@@ -1,6 +1,8 @@
+//! A library and a sink in memory, whose calls fail where they are told to.
+
 ghost use Rattle.std.specs.Prelude.{◌≡◌, ◌+◌, ◌-◌, ◌<◌, ◌≤◌, [], ℕ, length, take, drop, min, IfOk, IfSome, ◌^◌, ◌++◌, vec_len, vec_capacity};
 ghost use Rattle.std.specs.Option.{option_copied};
-ghost use Rattle.rare_base.specs.Outside.{HasCause, ReadsAt, ok_of, taken};
+ghost use Rattle.rare_base.specs.Outside.{CountsFault, Gives, ReadsAt, ok_of, taken};
 ghost use Rattle.rare_base.specs.MemoryTexts.{text_named};
 
 use crate::{Failed, Library, Sink, Text};
@@ -98,7 +100,7 @@ fn copy_piece(text: &[u8], at: usize, piece: usize, buf: &mut [u8]) -> usize
 impl Library for MemoryLibrary {
     ghost use Rattle.std.specs.Prelude.{None};
     ghost use Rattle.rare_base.specs.MemoryTexts.{text_named};
-    ghost use Rattle.rare_base.specs.Memory.{texts_of, read_piece, failing_reads, reads_of, faults_of, read_count};
+    ghost use Rattle.rare_base.specs.Memory.{texts_of, read_piece, failing_reads, reads_of, faults_of, read_count, most_calls};
 
     ghost text = { λ m w. text_named m.texts w };
 
@@ -109,12 +111,14 @@ impl Library for MemoryLibrary {
     fn read(&mut self, name: &[u8], at: u64, buf: &mut [u8]) -> Result<usize, Failed>
         requires { 0 < length buf.old }
         ensures bound { IfOk result (λ n. n ≤ length buf.new) }
-        ensures bytes { IfOk result (λ n. IfSome (text_named (texts_of self.old) name.now) (λ all. ReadsAt all at n buf.new)) }
+        ensures bytes { Gives (text_named (texts_of self.old) name.now) at result buf.new }
         ensures texts { texts_of self.new ≡ texts_of self.old }
-        ensures cause { HasCause (faults_of self.old) (faults_of self.new) result }
-        ensures calls { reads_of self.new ≡ min (reads_of self.old + 1) (2 ^ 64 - 1) }
-        ensures kept { (read_piece self.new ≡ read_piece self.old) × (failing_reads self.new ≡ failing_reads self.old) }
-        ensures answer { ok_of result ≡ read_count self.old (reads_of self.new) name.now at (length buf.old) }
+        ensures cause { CountsFault (faults_of self.old) (faults_of self.new) result }
+        ensures calls { reads_of self.new ≡ min (reads_of self.old + 1) most_calls }
+        ensures piece { read_piece self.new ≡ read_piece self.old }
+        ensures fail { failing_reads self.new ≡ failing_reads self.old }
+        ensures answer { ok_of result
+            ≡ read_count self.old (reads_of self.new) name.now at (length buf.old) }
     {
         self.calls = self.calls.saturating_add(1);
         let Some(text) = self.text(name) else {
@@ -196,7 +200,7 @@ impl MemorySink {
 
 impl Sink for MemorySink {
     ghost use Rattle.std.specs.Prelude.{Some};
-    ghost use Rattle.rare_base.specs.Memory.{held, room_of, put_piece, failing_puts, puts_of, put_faults, put_count};
+    ghost use Rattle.rare_base.specs.Memory.{held, room_of, put_piece, failing_puts, puts_of, put_faults, put_count, most_calls};
 
     ghost written = { λ m. Some m.bytes.items };
 
@@ -206,9 +210,11 @@ impl Sink for MemorySink {
         requires { 0 < length bytes.now }
         ensures count { IfOk result (λ n. (0 < n) × (n ≤ length bytes.now)) }
         ensures written { held self.new ≡ held self.old ++ taken result bytes.now }
-        ensures cause { HasCause (put_faults self.old) (put_faults self.new) result }
-        ensures calls { puts_of self.new ≡ min (puts_of self.old + 1) (2 ^ 64 - 1) }
-        ensures kept { (put_piece self.new ≡ put_piece self.old) × (room_of self.new ≡ room_of self.old) × (failing_puts self.new ≡ failing_puts self.old) }
+        ensures cause { CountsFault (put_faults self.old) (put_faults self.new) result }
+        ensures calls { puts_of self.new ≡ min (puts_of self.old + 1) most_calls }
+        ensures piece { put_piece self.new ≡ put_piece self.old }
+        ensures room { room_of self.new ≡ room_of self.old }
+        ensures fail { failing_puts self.new ≡ failing_puts self.old }
         ensures answer { ok_of result ≡ put_count self.old (puts_of self.new) (length bytes.now) }
     {
         self.calls = self.calls.saturating_add(1);

@@ -1,6 +1,8 @@
+//! The outside as two traits, `Library` and `Sink`, and the reading and the putting of whole texts by them.
+
 ghost use Rattle.std.specs.Prelude.{◌≡◌, ◌≢◌, ℕ, ◌+◌, ◌-◌, ◌^◌, ◌<◌, ◌≤◌, List, [], ◌∷◌, ◌++◌, length, min, take, Option, IfSome, IfOk, OnOk, OnErr, IsOk, IsErrOf};
-ghost use Rattle.rare_base.specs.Outside.{Rose, ReadsAt, HasCause, ok_of, taken, grown};
-ghost use Rattle.rare_base.specs.Reads.{Read, Added, ReadInTurn, ReadToEnd};
+ghost use Rattle.rare_base.specs.Outside.{Rose, CountsFault, Gives, ok_of, taken, grown};
+ghost use Rattle.rare_base.specs.Reads.{Read, read_of, room_at, most_file_bytes, Added, ReadInTurn, ReadToEnd};
 
 use crate::Text;
 use std::alloc::Global;
@@ -27,14 +29,15 @@ pub trait Library {
     /// ends before or at that place. `Err` comes only where the faults of that name rose.
     fn read(&mut self, name: &[u8], at: u64, buf: &mut [u8]) -> Result<usize, Failed>
         requires room { 0 < length buf.old }
-        requires near { at ≤ 2 ^ 28 }
+        requires near { at ≤ most_file_bytes }
         ensures bound { IfOk result (λ n. n ≤ length buf.new) }
-        ensures bytes { IfOk result (λ n. IfSome (text self.old name.now) (λ all. ReadsAt all at n buf.new)) }
+        ensures bytes { Gives (text self.old name.now) at result buf.new }
         ensures texts { (w : List ℕ) → text self.new w ≡ text self.old w }
-        ensures cause { HasCause (faults self.old name.now) (faults self.new name.now) result }
+        ensures cause { CountsFault (faults self.old name.now) (faults self.new name.now) result }
         ensures others { (w : List ℕ) → faults self.old w ≤ faults self.new w }
         ensures quiet { OnOk result ((w : List ℕ) → faults self.new w ≡ faults self.old w) }
-        ensures reads { Added (reads self.old) (reads self.new) (record { name = name.now; at = at; room = length buf.old; gave = ok_of result } ∷ []) };
+        ensures reads { Added (reads self.old) (reads self.new)
+            (read_of name.now at (length buf.old) (ok_of result) ∷ []) };
 }
 
 /// Where an answer goes.
@@ -51,7 +54,7 @@ pub trait Sink {
         requires { 0 < length bytes.now }
         ensures count { IfOk result (λ n. (0 < n) × (n ≤ length bytes.now)) }
         ensures written { written self.new ≡ grown (written self.old) (taken result bytes.now) }
-        ensures cause { HasCause (faults self.old) (faults self.new) result };
+        ensures cause { CountsFault (faults self.old) (faults self.new) result };
 }
 
 /// Why a file can't be read whole.
@@ -73,10 +76,10 @@ const PIECE: usize = 1 << 16;
 
 /// How many bytes a read asks for at this place: a piece, and never a byte behind the one that
 /// shows that the file is too long.
-fn room_at(at: usize) -> usize
-    requires { at ≤ 2 ^ 28 }
+fn next_room(at: usize) -> usize
+    requires { at ≤ most_file_bytes }
     ensures some { 0 < result }
-    ensures piece { result ≡ min (2 ^ 16) (2 ^ 28 + 1 - at) }
+    ensures piece { result ≡ room_at at }
 {
     PIECE.min(LONGEST + 1 - at)
 }
@@ -88,10 +91,13 @@ fn room_at(at: usize) -> usize
 /// it is told, has more than 2^28 bytes. Unless it answers `Failed`, no count of faults changes.
 pub fn read_whole<L: Library>(alloc: Global, files: &mut L, name: &[u8]) -> Result<Text, ReadError>
     ensures text { IfOk result (λ t. IfSome (L.text files.old name.now) (λ all. all ≡ t)) }
-    ensures length { IfOk result (λ t. length t ≤ 2 ^ 28) }
-    ensures long { IsErrOf result ReadError.TooLong → IfSome (L.text files.old name.now) (λ all. 2 ^ 28 < length all) }
-    ensures failed { IsErrOf result ReadError.Failed → Rose (L.faults files.old name.now) (L.faults files.new name.now) }
-    ensures quiet { (result ≢ Err ReadError.Failed) → (w : List ℕ) → L.faults files.new w ≡ L.faults files.old w }
+    ensures length { IfOk result (λ t. length t ≤ most_file_bytes) }
+    ensures long { IsErrOf result ReadError.TooLong →
+        IfSome (L.text files.old name.now) (λ all. most_file_bytes < length all) }
+    ensures failed { IsErrOf result ReadError.Failed →
+        Rose (L.faults files.old name.now) (L.faults files.new name.now) }
+    ensures quiet { (result ≢ Err ReadError.Failed) →
+        (w : List ℕ) → L.faults files.new w ≡ L.faults files.old w }
     ensures later { (w : List ℕ) → L.faults files.old w ≤ L.faults files.new w }
     ensures texts { (w : List ℕ) → L.text files.new w ≡ L.text files.old w }
     ensures reads { ReadInTurn (L.reads files.old) (L.reads files.new) (name.now ∷ []) }
@@ -104,7 +110,7 @@ pub fn read_whole<L: Library>(alloc: Global, files: &mut L, name: &[u8]) -> Resu
         if at > LONGEST {
             return Err(ReadError::TooLong);
         }
-        let room = room_at(at);
+        let room = next_room(at);
         match files.read(name, at as u64, &mut buf[..room]) {
             Err(_) => return Err(ReadError::Failed),
             Ok(0) => return Ok(text),
@@ -120,8 +126,9 @@ pub fn read_whole<L: Library>(alloc: Global, files: &mut L, name: &[u8]) -> Resu
 /// Puts all of `bytes`. `Err` comes where a put failed; then a proper front of them was written.
 pub fn put_whole<S: Sink>(out: &mut S, bytes: &[u8]) -> Result<(), Failed>
     ensures ok { OnOk result (S.written out.new ≡ grown (S.written out.old) bytes.now) }
-    ensures cut { OnErr result ((n : ℕ) × (n < length bytes.now) × (S.written out.new ≡ grown (S.written out.old) (take n bytes.now))) }
-    ensures cause { HasCause (S.faults out.old) (S.faults out.new) result }
+    ensures cut { OnErr result ((n : ℕ) × (n < length bytes.now)
+        × (S.written out.new ≡ grown (S.written out.old) (take n bytes.now))) }
+    ensures cause { CountsFault (S.faults out.old) (S.faults out.new) result }
 {
     let mut at = 0;
     while at < bytes.len() {

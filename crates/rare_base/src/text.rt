@@ -1,3 +1,5 @@
+//! Bytes that grow at their end, seen by contracts as the list of the bytes.
+
 ghost use Rattle.std.specs.Prelude.{◌≡◌, [], ◌∷◌, ◌++◌, OnOk, OnErr, IfOk};
 
 use rare_list::Sequence;
@@ -22,7 +24,7 @@ impl Model for Text {
 pub type Texts = Sequence<Text>;
 
 impl Text {
-    /// The empty text. It takes no memory.
+    /// The empty text.
     pub fn new(alloc: Global) -> Text
         ensures { result ≡ [] }
     {

@@ -1,3 +1,5 @@
+//! The table of names, over an `IndexSet` of the names' bytes.
+
 ghost use Rattle.std.specs.Prelude.{◌≡◌, ◌<◌, [], ◌∷◌, ◌++◌, Some, false, length, position, bytes_eq, slice_get, OnOk, OnErr};
 ghost use Rattle.std.specs.List.{list_any};
 
@@ -18,13 +20,15 @@ impl Model for NameTable {
 
     ghost Value = { List (List ℕ) };
 
-    ghost use Rattle.rare_names.specs.Names.{names_of};
+    ghost use Rattle.rare_names.specs.inner.Names.{names_of, AllDiffer};
 
     ghost view = { names_of };
+
+    ghost invariant = { λ t. AllDiffer (names_of t) };
 }
 
 impl NameTable {
-    /// The table without names. It takes no memory.
+    /// The table without names.
     pub fn new(alloc: Global) -> NameTable
         ensures { result ≡ [] }
     {
@@ -105,6 +109,21 @@ mod tests {
                 assert_eq!(rt; names.name(k), name.as_bytes());
             }
         }
+        Ok(())
+    }
+
+    #[test]
+    fn a_hundred_names_keep_their_places(rt: HostRuntime) -> Result<(), Fail> {
+        let mut names = NameTable::new(rt.alloc());
+        for k in 0u8..100 {
+            assert!(rt; !names.contains(&[b'x', k]));
+            names.add(&[b'x', k])?;
+        }
+        assert_eq!(rt; names.len(), 100);
+        for k in 0u8..100 {
+            assert_eq!(rt; names.find(&[b'x', k]), Some(k as usize));
+        }
+        assert_eq!(rt; names.find(b"x"), None);
         Ok(())
     }
 }

@@ -1,3 +1,5 @@
+//! Sums, differences, products and negation, modulo 2^width.
+
 ghost use Rattle.std.specs.Prelude.{◌≡◌};
 ghost use Rattle.rare_bits.specs.Bits.{bvadd, bvmul, bvneg, bvsub};
 ghost use Rattle.rare_wide.specs.Widths.{IsBitVector};

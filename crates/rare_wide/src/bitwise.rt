@@ -1,3 +1,5 @@
+//! The operators bit by bit.
+
 ghost use Rattle.std.specs.Prelude.{◌≡◌};
 ghost use Rattle.rare_bits.specs.Bits.{bvand, bvnot, bvor, bvxor};
 ghost use Rattle.rare_wide.specs.Widths.{IsBitVector};

@@ -1,3 +1,5 @@
+//! The five divisions, with what the standard gives where the divisor is 0.
+
 ghost use Rattle.std.specs.Prelude.{◌≡◌};
 ghost use Rattle.rare_bits.specs.Bits.{bvsdiv, bvsmod, bvsrem, bvudiv, bvurem};
 ghost use Rattle.rare_wide.specs.Widths.{IsBitVector};

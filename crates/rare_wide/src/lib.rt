@@ -3,7 +3,8 @@
 //!
 //! A bit vector of `width` bits is its number, which is below 2^width. Each call needs widths from
 //! 1 to 128 and operands below 2^width, and gives exactly the operator's value, as
-//! `rare_bits/specs/Bits.antt` defines it. No call takes memory or fails.
+//! `rare_bits/specs/Bits.antt` defines it. By the laws of `rare_bits` this value is below 2^width, or
+//! below the power of two of the wider result. No call takes memory or fails.
 #![tactic(auto)]
 
 mod arithmetic;

@@ -1,3 +1,5 @@
+//! Shifts by any number of places, and rotations.
+
 ghost use Rattle.std.specs.Prelude.{◌≡◌};
 ghost use Rattle.rare_bits.specs.Bits.{bvashr, bvlshr, bvshl, rotate_left, rotate_right};
 ghost use Rattle.rare_wide.specs.Widths.{IsBitVector};

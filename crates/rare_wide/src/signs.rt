@@ -1,3 +1,5 @@
+//! The top bit as a sign, and the order of the signed numbers.
+
 ghost use Rattle.std.specs.Prelude.{◌≡◌, ◌<ℤ◌, ◌↔◌, IsTrue};
 ghost use Rattle.rare_bits.specs.Bits.{is_negative, magnitude, signed};
 ghost use Rattle.rare_wide.specs.Widths.{IsBitVector};

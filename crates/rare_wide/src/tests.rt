@@ -1,3 +1,5 @@
+//! Values worked by hand from the standard, at widths 1, 4 and 128.
+
 ghost use Rattle.rare_wide.specs.Widths.{IsBitVector};
 
 use crate::words::ones;
