@@ -1,4 +1,5 @@
-ghost use Rattle.std.specs.Prelude.{◌≡◌, ℕ, ℤ, ◌+ℤ◌, ◌*ℤ◌, pos, [], ◌∷◌, length, IfOk, OnOk};
+//! Linear expressions in normal form: sums, multiples, differences and substitution, exact in 128 bits.
+ghost use Rattle.std.specs.Prelude.{◌≡◌, ◌↔◌, IsTrue, ℕ, ℤ, ◌+ℤ◌, ◌*ℤ◌, pos, [], ◌∷◌, length, IfOk, OnOk};
 
 use crate::error::LinearError;
 use crate::merge;
@@ -9,7 +10,7 @@ use std::marker::Model;
 /// A whole constant and whole coefficients of names: `offset + c1 * n1 + c2 * n2 + ..`.
 ///
 /// It is kept in normal form: the names rise, and no coefficient is 0. So expressions with equal values at
-/// all names have equal parts, as `proofs/Unique.antt` shows. Widths of bit vectors and indices of operators
+/// all names have equal parts (`equal_values_are_one_form`). Widths of bit vectors and indices of operators
 /// are such expressions.
 #[derive(Debug, Drop)]
 pub struct Linear {
@@ -20,12 +21,14 @@ pub struct Linear {
 impl Model for Linear {
     ghost use Rattle.rare_linear.specs.Linears.{LinearExpression, linear, IsNormal};
     ghost use Rattle.rare_linear.specs.PartialSums.{AllFit};
+    ghost use Rattle.std.specs.Prelude.{FitsSigned};
+    ghost use Rattle.std.specs.Int.{w128};
 
     ghost Value = { LinearExpression };
 
     ghost view = { λ l. linear l.constant l.parts.items };
 
-    ghost invariant = { λ l. IsNormal l.parts.items × AllFit l.parts.items };
+    ghost invariant = { λ l. IsNormal l.parts.items × AllFit l.parts.items × FitsSigned w128 l.constant };
 }
 
 /// A list of linear expressions.
@@ -34,6 +37,7 @@ pub type Linears = Sequence<Linear>;
 impl Linear {
     ghost use Rattle.rare_linear.specs.Linears.{IsNormal, NamesBelow, linear, number, linear_value, add, scale, substitute, value_at};
     ghost use Rattle.rare_linear.specs.PartialSums.{AllFit, IsWithin, PartialSumsFit};
+    ghost use Rattle.rare_linear.specs.Entailment.{minus};
 
     /// The names with their coefficients, the names rising and no coefficient 0.
     pub fn parts(&self) -> &[(u32, i128)]
@@ -51,7 +55,7 @@ impl Linear {
         self.constant
     }
 
-    /// An expression without names. It takes no memory.
+    /// An expression without names. It cannot fail.
     pub fn constant(alloc: Global, k: i128) -> Linear
         ensures { result ≡ number k }
     {
@@ -68,6 +72,14 @@ impl Linear {
         let mut parts = Vec::new(alloc);
         parts.push((name, 1))?;
         Ok(Linear { constant: 0, parts })
+    }
+
+    /// Whether two expressions are one.
+    pub fn is_same(&self, other: &Linear) -> bool
+        ensures { IsTrue result ↔ (self.now ≡ other.now) }
+    {
+        is_same_number(self.constant, other.constant)
+            && self.parts.as_slice() == other.parts.as_slice()
     }
 
     /// An equal expression in memory of its own.
@@ -103,6 +115,17 @@ impl Linear {
         ensures too_large { result ≡ Err LinearError.TooLarge → ¬ IsWithin (scale k self.now) }
     {
         Linear::constant(*self.parts.allocator(), 0).plus_multiple(k, self)
+    }
+
+    /// This expression minus the other.
+    ///
+    /// `TooLarge` says that its constant or a coefficient is no `i128`.
+    pub fn minus(&self, other: &Linear) -> Result<Linear, LinearError>
+        ensures difference { IfOk result (λ l. l ≡ minus self.now other.now) }
+        ensures within { OnOk result (IsWithin (minus self.now other.now)) }
+        ensures too_large { result ≡ Err LinearError.TooLarge → ¬ IsWithin (minus self.now other.now) }
+    {
+        self.plus_multiple(-1, other)
     }
 
     /// The expression with `values[k]` in the place of name `k`. Each name needs a value.
@@ -148,4 +171,10 @@ impl Linear {
         let parts = merge::plus_multiple(alloc, &self.parts, k, &other.parts)?;
         Ok(Linear { constant, parts })
     }
+}
+
+fn is_same_number(a: i128, b: i128) -> bool
+    ensures { IsTrue result ↔ (a ≡ b) }
+{
+    a == b
 }

@@ -1,4 +1,4 @@
-pub mod TreeLaws
-pub mod Keeping
-pub mod MeaningLemmas
-pub mod SameTreesLemmas
+mod Growing
+mod ReducedLemmas
+mod MakeLemmas
+mod TestLemmas

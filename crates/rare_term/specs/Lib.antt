@@ -1,12 +1,6 @@
-pub mod Trees
-pub mod Sorts
-pub mod Limits
-pub mod Values
-pub mod Interpretations
-pub mod Meaning
-pub mod TrueRewrite
-pub mod Entries
-pub mod SameTrees
-pub mod Nodes
 pub mod State
-pub mod Kept
+pub mod Limits
+pub mod Literals
+pub mod Refusals
+pub mod Lawful
+pub mod inner

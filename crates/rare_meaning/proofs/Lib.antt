@@ -1,0 +1,12 @@
+pub mod ValueLemmas
+pub mod ArrayFits
+pub mod ArrayLemmas
+pub mod ItemFits
+pub mod FitsLemmas
+pub mod MeaningLemmas
+pub mod TermsFit
+pub mod DivisionLemmas
+pub mod RewriteLemmas
+pub mod RowLemmas
+pub mod Gather
+pub mod ParameterLemmas

@@ -1,0 +1,12 @@
+pub mod Values
+pub mod ClosedSorts
+pub mod Settings
+pub mod FiniteMaps
+pub mod Interpretations
+pub mod Splicing
+pub mod Operators
+pub mod Meaning
+pub mod TrueRewrite
+pub mod Fitting
+pub mod MeaningLaws
+pub mod rows

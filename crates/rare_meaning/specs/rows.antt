@@ -1,0 +1,9 @@
+pub mod Rows
+pub mod CoreRows
+pub mod IntRows
+pub mod ArrayRows
+pub mod ArithmeticRows
+pub mod BitwiseRows
+pub mod SliceRows
+pub mod CollapseRows
+pub mod NameRows

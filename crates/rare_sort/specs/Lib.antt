@@ -1,0 +1,12 @@
+pub mod Each
+pub mod Trees
+pub mod Ids
+pub mod Sameness
+pub mod Families
+pub mod SortRules
+pub mod Sorting
+pub mod DeclaredSorts
+pub mod Rulings
+pub mod SortOf
+pub mod SortLaws
+pub mod inner
