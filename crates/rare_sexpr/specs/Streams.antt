@@ -2,7 +2,8 @@
 use Rattle.std.specs.Prelude.{ℕ, Bool, false, List, [], ◌++◌, Option, Some, None}
 use Rattle.rare_base.specs.declared.answers.Place.{Place}
 use Rattle.rare_base.specs.Answers.{Refusal, first_place}
-use Rattle.rare_sexpr.specs.Commands.{Commands, commands_from}
+use Rattle.rare_sexpr.specs.Commands.{Commands}
+use Rattle.rare_sexpr.specs.Readings.{commands_from}
 
 -- the bytes not yet taken, the place of the first of them, how many bytes were fed, whether the end
 -- was told, and the refusal that stands

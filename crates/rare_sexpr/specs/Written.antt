@@ -1,36 +1,28 @@
--- How a symbol is written
+-- How a symbol and a string are written
 -- (SMT-LIB 2.6, sections on the lexicon and on s-expressions).
-use Rattle.std.specs.Prelude.{◌≡◌, ℕ, Bool, true, false, ◌&&◌, List, [], ◌∷◌, ◌++◌, take, if◌then◌else◌}
+use Rattle.std.specs.Prelude.{◌≡◌, ℕ, Bool, false, not, ◌&&◌, List, [], ◌∷◌, ◌++◌, take, nat_eq, if◌then◌else◌}
 use Rattle.std.specs.List.{list_all}
-use Rattle.rare_sexpr.specs.declared.bytes.Class.{Class}
-use Rattle.rare_sexpr.specs.declared.bytes.Class.TheVariants.{Blank, LineEnd, Open, Close, Semicolon, Colon, Digit, Letter, Quote, Other}
-use Rattle.rare_sexpr.specs.Bytes.{class}
-use Rattle.rare_sexpr.specs.Tokens.{goes_on}
-
--- a byte that may stand first in a symbol
-abbrev pub begins_symbol : Class → Bool
-begins_symbol Letter = true
-begins_symbol Blank = false
-begins_symbol LineEnd = false
-begins_symbol Open = false
-begins_symbol Close = false
-begins_symbol Semicolon = false
-begins_symbol Colon = false
-begins_symbol Digit = false
-begins_symbol Quote = false
-begins_symbol Other = false
+use Rattle.rare_sexpr.specs.Bytes.{is_symbol_byte, is_digit}
 
 abbrev pub are_symbol_bytes : List ℕ → Bool
-are_symbol_bytes = list_all (λ b. goes_on (class b))
+are_symbol_bytes = list_all is_symbol_byte
 
 -- one or more symbol bytes, no digit first
 abbrev pub is_simple : List ℕ → Bool
 is_simple [] = false
-is_simple (b ∷ bs) = begins_symbol (class b) && are_symbol_bytes (b ∷ bs)
+is_simple (b ∷ bs) = not (is_digit b) && are_symbol_bytes (b ∷ bs)
 
 -- bare, or between bars
 abbrev pub written_symbol : List ℕ → List ℕ
 written_symbol symbol = if is_simple symbol then symbol else 124 ∷ symbol ++ 124 ∷ []
+
+-- a quote in a string is written twice
+abbrev pub doubled : List ℕ → List ℕ
+doubled [] = []
+doubled (b ∷ bs) = if nat_eq b 34 then 34 ∷ 34 ∷ doubled bs else b ∷ doubled bs
+
+abbrev pub written_string : List ℕ → List ℕ
+written_string bytes = 34 ∷ doubled bytes ++ 34 ∷ []
 
 -- the old bytes, and perhaps the front of these
 abbrev pub IsCut : List ℕ → List ℕ → List ℕ → Type 0

@@ -1,313 +1,287 @@
-ghost use Rattle.std.specs.Prelude.{◌≡◌, [], ◌∷◌, ◌+◌, ◌<◌, ◌≤◌, ◌^◌, length, reverse, IfOk};
-ghost use Rattle.rare_sexpr.specs.Bytes.{class, after};
-ghost use Rattle.rare_sexpr.specs.Commands.{atom_of, list_of, begin_of};
-ghost use Rattle.rare_sexpr.specs.Parsing.{new_parser, is_idle, IsAdded, IsMove, LeavesByte, Finds, Ends, IsEnd};
-ghost use Rattle.rare_sexpr.specs.declared.parser.Mode.TheVariants.{Between};
+//! The front of a command, read word by word.
+ghost use Rattle.std.specs.Prelude.{◌≡◌, ◌+◌, ◌<◌, ◌≤◌, ◌^◌, Bool, false, length, drop, get_or, IfOk};
+ghost use Rattle.rare_sexpr.specs.inner.Classes.{class};
+ghost use Rattle.rare_sexpr.specs.inner.Parsing.{new_parser, behind_gap, is_outermost, passed_byte, is_comment, IsParsing, IsSkipped, IsTurn, IsRead, IsEnd};
+ghost use Rattle.rare_sexpr.specs.inner.Wording.{IsWord};
 
-use crate::bytes::{Class, class_of, place_after};
-use crate::tree::{Kind, Sexpr, Sexprs};
-use rare_base::{Place, Text};
-use rare_list::Sequence;
+use crate::bytes::{Class, bytes_between, bytes_from, place_after};
+use crate::gaps::skip_gap;
+use crate::scan::Part;
+use crate::stack::Stack;
+use crate::text::text_of;
+use crate::tree::{AtomKind, Sexpr};
+use crate::word::{Found, go_on, next_word, place_behind};
+use rare_base::{Place, Reason};
 use std::alloc::{AllocError, Global};
-use std::mem;
 
 /// The most lists that may stand in one another.
-pub const DEEPEST: usize = 5000;
+pub const MOST_NESTED_LISTS: usize = 5000;
 
-/// Where a parser stands between two bytes.
-#[derive(Debug, Drop)]
+/// Where a parser stands.
+#[derive(Clone, Copy, Debug, PartialEq, Eq)]
 pub enum Mode {
     /// Between words.
     Between,
     /// In a comment.
     Comment,
-    /// Behind a colon that begins a keyword.
-    Colon(Place),
-    /// In an atom, with the place of its first byte and its text so far.
-    Atom {
-        place: Place,
-        kind: Kind,
-        text: Text,
-    },
+    /// At an atom whose front, of so many bytes, was read to this part.
+    Word { part: Part, seen: usize },
 }
 
-/// A list that is not yet closed, with the place of its parenthesis and the items so far.
-#[derive(Debug, Drop)]
-pub struct OpenList {
-    pub place: Place,
-    pub items: Sexprs,
+impl Mode {
+    // Whether a comment goes on.
+    fn is_comment(self) -> bool
+        ensures { result ≡ is_comment self }
+    {
+        match self {
+            Mode::Comment => true,
+            Mode::Between => false,
+            Mode::Word { .. } => false,
+        }
+    }
+
+    // Behind a gap that may end in a comment.
+    fn behind_gap(in_comment: bool) -> Mode
+        ensures { result ≡ behind_gap in_comment }
+    {
+        if in_comment {
+            Mode::Comment
+        } else {
+            Mode::Between
+        }
+    }
 }
 
-/// What the front of a command was read to, byte by byte. The innermost open list is the last.
+/// What the front of a command was read to: the number and the place of the next byte, and the open
+/// lists with their items.
 #[derive(Debug, Drop)]
 pub struct Parser {
+    pub at: usize,
     pub place: Place,
     pub mode: Mode,
-    pub lists: Sequence<OpenList>,
+    pub stack: Stack,
 }
 
-/// What one byte did.
+/// What the next word did.
 #[derive(Debug, Drop)]
-pub enum Move {
+pub enum Turn {
     Goes,
     /// It ends a command.
     Command(Sexpr),
-    /// It is the first behind a command, and is not taken.
-    Before(Sexpr),
-    /// The command that begins at this place is refused.
-    Refused(Place),
+    Refused { place: Place, reason: Reason },
+    /// It may go on behind the bytes.
+    Waits,
 }
 
 /// What bytes came to.
 #[derive(Debug, Drop)]
-pub enum Found {
+pub enum Read {
     /// A command, whose last byte is the last that was taken.
-    Command { command: Sexpr, taken: usize },
-    /// The command that begins at this place is refused.
-    Refused(Place),
+    Command(Sexpr),
+    Refused { place: Place, reason: Reason },
     /// Bytes that go on.
     NeedMore,
     /// The end of the text.
     Finished,
 }
 
-fn make_list(alloc: Global, list: OpenList) -> Sexpr
-    ensures { result ≡ list_of list }
-{
-    Sexpr::new(list.place, Kind::List, Text::new(alloc), list.items)
-}
-
-fn make_atom(alloc: Global, place: Place, kind: Kind, text: Text) -> Sexpr
-    ensures { result ≡ atom_of place kind text }
-{
-    Sexpr::new(place, kind, text, Sexprs::new(alloc))
-}
-
-fn first_byte(alloc: Global, place: Place, kind: Kind, byte: u8) -> Result<Mode, AllocError>
-    ensures { IfOk result (λ m. m ≡ Mode.Atom place kind (byte ∷ [])) }
-{
-    Ok(Mode::Atom {
-        place,
-        kind,
-        text: Text::of(alloc, &[byte])?,
-    })
-}
-
-// Adds an expression to the innermost open list, or hands it back where none is open.
-fn add(lists: &mut Sequence<OpenList>, e: Sexpr) -> Result<Option<Sexpr>, AllocError>
-    ensures { IfOk result (λ r. IsAdded lists.old e r lists.new) }
-{
-    if lists.is_empty() {
-        return Ok(Some(e));
-    }
-    let mut list = lists.pop();
-    list.items.push(e)?;
-    lists.push(list)?;
-    Ok(None)
-}
-
-// The place of the outermost open list, or else this one.
-#[tactic(auto, using(crate::proofs::Stacks::begin_first))]
-fn begin(lists: &[OpenList], place: Place) -> Place
-    ensures { result ≡ begin_of (reverse lists.now) place }
-{
-    match lists.first() {
-        Some(list) => list.place,
-        None => place,
-    }
-}
-
 impl Parser {
-    /// A parser of a text that begins at this place. It takes no memory.
-    pub fn new(alloc: Global, place: Place) -> Parser
-        ensures { result ≡ new_parser place }
+    /// A parser at this byte of a text. It cannot fail.
+    pub fn new(alloc: Global, at: usize, place: Place) -> Parser
+        ensures { result ≡ new_parser at place }
     {
         Parser {
+            at,
             place,
             mode: Mode::Between,
-            lists: Sequence::new(alloc),
+            stack: Stack::new(alloc),
         }
     }
 
-    /// Whether it stands between words, with no open list.
-    pub fn is_idle(&self) -> bool
-        ensures { result ≡ is_idle self.now }
+    /// Whether no list is open and no comment goes on.
+    pub fn is_outermost(&self) -> bool
+        ensures { result ≡ is_outermost self.now }
     {
-        matches!(self.mode, Mode::Between) && self.lists.is_empty()
+        self.stack.opened.is_empty() && !self.mode.is_comment()
     }
 
     /// Reads on over these bytes, behind which the text ends or not, to the end of a command.
     /// Want of memory leaves any parser.
-    pub fn read(&mut self, alloc: Global, bytes: &[u8], ended: bool) -> Result<Found, AllocError>
-        requires line { self.old.place.line + length bytes.now < 2 ^ 32 }
-        requires column { self.old.place.column + length bytes.now < 2 ^ 32 }
-        ensures { IfOk result (λ f. Finds self.old bytes.now ended f self.new) }
+    pub fn read(&mut self, alloc: Global, bytes: &[u8], ended: bool) -> Result<Read, AllocError>
+        requires { IsParsing bytes.now self.old }
+        ensures { IfOk result (λ r. IsRead bytes.now ended self.old r self.new) }
     {
-        for (taken, byte) in bytes.iter().enumerate() {
-            match self.step(alloc, *byte)? {
-                Move::Goes => {}
-                Move::Command(command) => {
-                    return Ok(Found::Command {
-                        command,
-                        taken: taken + 1,
-                    });
-                }
-                Move::Before(command) => return Ok(Found::Command { command, taken }),
-                Move::Refused(place) => return Ok(Found::Refused(place)),
+        'words: while self.at < bytes.len() {
+            match self.turn(alloc, bytes, ended)? {
+                Turn::Goes => {}
+                Turn::Command(command) => return Ok(Read::Command(command)),
+                Turn::Refused { place, reason } => return Ok(Read::Refused { place, reason }),
+                Turn::Waits => return Ok(Read::NeedMore),
             }
         }
-        if ended {
-            self.end(alloc, bytes.len())
-        } else {
-            Ok(Found::NeedMore)
-        }
+        Ok(self.end(ended))
     }
 
-    fn end(&mut self, alloc: Global, taken: usize) -> Result<Found, AllocError>
-        ensures { IfOk result (λ f. Ends self.old taken f self.new) }
+    // All bytes are read, and no word is begun.
+    #[tactic(auto, using(crate::proofs::Moves::outermost_first, crate::proofs::Moves::some_first))]
+    fn end(&self, ended: bool) -> Read
+        ensures { IsEnd ended self.now result }
     {
-        match mem::replace(&mut self.mode, Mode::Between) {
-            Mode::Between | Mode::Comment => Ok(self.unclosed()),
-            Mode::Colon(place) => Ok(Found::Refused(begin(self.lists.items(), place))),
-            Mode::Atom { place, kind, text } => {
-                match add(&mut self.lists, make_atom(alloc, place, kind, text))? {
-                    Some(command) => Ok(Found::Command { command, taken }),
-                    None => Ok(self.unclosed()),
-                }
-            }
+        if !ended {
+            return Read::NeedMore;
         }
-    }
-
-    // The end of the text, which is refused in an open list.
-    #[tactic(auto, using(crate::proofs::Stacks::ended_first))]
-    fn unclosed(&self) -> Found
-        ensures { IsEnd (reverse self.now.lists) result }
-    {
-        match self.lists.items().first() {
-            Some(list) => Found::Refused(list.place),
-            None => Found::Finished,
-        }
-    }
-
-    fn step(&mut self, alloc: Global, byte: u8) -> Result<Move, AllocError>
-        requires line { self.old.place.line + 1 < 2 ^ 32 }
-        requires column { self.old.place.column + 1 < 2 ^ 32 }
-        ensures moved { IfOk result (λ m. IsMove self.old byte m self.new) }
-        ensures left { IfOk result (λ m. LeavesByte self.old m self.new) }
-        ensures line { self.new.place.line ≤ self.old.place.line + 1 }
-        ensures column { self.new.place.column ≤ self.old.place.column + 1 }
-    {
-        match mem::replace(&mut self.mode, Mode::Between) {
-            Mode::Between => self.start(alloc, byte),
-            Mode::Comment => match class_of(byte) {
-                Class::LineEnd => Ok(self.go_on(byte, Mode::Between)),
-                _ => Ok(self.go_on(byte, Mode::Comment)),
+        match self.stack.opened.items().first() {
+            Some(list) => Read::Refused {
+                place: list.place,
+                reason: Reason::Unbalanced,
             },
-            Mode::Colon(place) => match class_of(byte) {
-                Class::Digit | Class::Letter => {
-                    let mode = first_byte(alloc, place, Kind::Keyword, byte)?;
-                    Ok(self.go_on(byte, mode))
-                }
-                _ => Ok(self.refuse(place)),
-            },
-            Mode::Atom { place, kind, text } => self.step_atom(alloc, byte, place, kind, text),
+            None => Read::Finished,
         }
     }
 
-    // Reads a byte in or behind an atom.
-    fn step_atom(
+    // Reads a gap and a word.
+    fn turn(&mut self, alloc: Global, bytes: &[u8], ended: bool) -> Result<Turn, AllocError>
+        requires parsing { IsParsing bytes.now self.old }
+        requires some { self.old.at < length bytes.now }
+        ensures { IfOk result (λ t. IsTurn bytes.now ended self.old t self.new) }
+    {
+        if let Mode::Word { part, seen } = self.mode {
+            let found = go_on(bytes_from(bytes, self.at), seen, part, ended);
+            return self.take(alloc, bytes, ended, found);
+        }
+        self.skip(bytes);
+        if self.at == bytes.len() {
+            return Ok(Turn::Goes);
+        }
+        let found = next_word(bytes_from(bytes, self.at), ended);
+        self.take(alloc, bytes, ended, found)
+    }
+
+    // Passes over blanks and comments.
+    fn skip(&mut self, bytes: &[u8])
+        requires parsing { IsParsing bytes.now self.old }
+        ensures { IsSkipped bytes.now self.old self.new }
+    {
+        let gap = skip_gap(bytes, self.at, self.place, self.mode.is_comment());
+        self.at = gap.at;
+        self.place = gap.place;
+        self.mode = Mode::behind_gap(gap.in_comment);
+    }
+
+    // Takes the first word of the bytes that are left.
+    fn take(
         &mut self,
         alloc: Global,
-        byte: u8,
-        place: Place,
-        kind: Kind,
-        mut text: Text,
-    ) -> Result<Move, AllocError>
-        requires between { self.old.mode ≡ Between }
-        requires line { self.old.place.line + 1 < 2 ^ 32 }
-        requires column { self.old.place.column + 1 < 2 ^ 32 }
-        ensures moved { IfOk result (λ m. IsMove (record self.old { mode = Mode.Atom place kind text }) byte m self.new) }
-        ensures left { IfOk result (λ m. LeavesByte (record self.old { mode = Mode.Atom place kind text }) m self.new) }
-        ensures line { self.new.place.line ≤ self.old.place.line + 1 }
-        ensures column { self.new.place.column ≤ self.old.place.column + 1 }
-    {
-        match class_of(byte) {
-            Class::Digit | Class::Letter => {
-                text.push(byte)?;
-                Ok(self.go_on(byte, Mode::Atom { place, kind, text }))
-            }
-            Class::Colon | Class::Other => Ok(self.refuse(place)),
-            _ => match add(&mut self.lists, make_atom(alloc, place, kind, text))? {
-                Some(command) => Ok(Move::Before(command)),
-                None => self.start(alloc, byte),
-            },
-        }
-    }
-
-    // Reads a byte between words.
-    fn start(&mut self, alloc: Global, byte: u8) -> Result<Move, AllocError>
-        requires between { self.old.mode ≡ Between }
-        requires line { self.old.place.line + 1 < 2 ^ 32 }
-        requires column { self.old.place.column + 1 < 2 ^ 32 }
-        ensures moved { IfOk result (λ m. IsMove self.old byte m self.new) }
-        ensures left { IfOk result (λ m. LeavesByte self.old m self.new) }
-        ensures line { self.new.place.line ≤ self.old.place.line + 1 }
-        ensures column { self.new.place.column ≤ self.old.place.column + 1 }
+        bytes: &[u8],
+        ended: bool,
+        found: Found,
+    ) -> Result<Turn, AllocError>
+        requires parsing { IsParsing bytes.now self.old }
+        requires some { self.old.at < length bytes.now }
+        requires between { is_comment self.old.mode ≡ false }
+        requires word { IsWord (drop self.old.at bytes.now) ended found }
+        ensures { IfOk result (λ t. IsTurn bytes.now ended self.old t self.new) }
     {
         let place = self.place;
-        match class_of(byte) {
-            Class::Blank | Class::LineEnd => Ok(self.go_on(byte, Mode::Between)),
-            Class::Semicolon => Ok(self.go_on(byte, Mode::Comment)),
-            Class::Colon => Ok(self.go_on(byte, Mode::Colon(place))),
-            Class::Letter => {
-                let mode = first_byte(alloc, place, Kind::Symbol, byte)?;
-                Ok(self.go_on(byte, mode))
+        match found {
+            Found::Open => self.open(bytes),
+            Found::Close => self.close(bytes),
+            Found::NoWord => Ok(Turn::Refused {
+                place,
+                reason: Reason::BadCharacter,
+            }),
+            Found::Atom { kind, end } => self.add_atom(alloc, bytes, kind, end),
+            Found::Bad { end } => Ok(Turn::Refused {
+                place: place_behind(bytes_between(bytes, self.at, end), place),
+                reason: Reason::BadCharacter,
+            }),
+            Found::Cut(reason) => Ok(Turn::Refused { place, reason }),
+            Found::More(part) => {
+                let seen = bytes.len() - self.at;
+                self.mode = Mode::Word { part, seen };
+                Ok(Turn::Waits)
             }
-            Class::Open if self.lists.len() < DEEPEST => {
-                let items = Sexprs::new(alloc);
-                self.lists.push(OpenList { place, items })?;
-                Ok(self.go_on(byte, Mode::Between))
-            }
-            Class::Close if !self.lists.is_empty() => self.close(alloc, byte),
-            Class::Digit | Class::Quote | Class::Other => Ok(self.refuse(place)),
-            Class::Open | Class::Close => Ok(self.refuse(place)),
         }
     }
 
-    // Reads the `)` of the innermost open list.
-    fn close(&mut self, alloc: Global, byte: u8) -> Result<Move, AllocError>
-        requires between { self.old.mode ≡ Between }
-        requires some { 0 < length self.old.lists }
-        requires byte { class byte ≡ Class.Close }
-        requires line { self.old.place.line + 1 < 2 ^ 32 }
-        requires column { self.old.place.column + 1 < 2 ^ 32 }
-        ensures moved { IfOk result (λ m. IsMove self.old byte m self.new) }
-        ensures left { IfOk result (λ m. LeavesByte self.old m self.new) }
-        ensures line { self.new.place.line ≤ self.old.place.line + 1 }
-        ensures column { self.new.place.column ≤ self.old.place.column + 1 }
+    // Reads a `(`.
+    fn open(&mut self, bytes: &[u8]) -> Result<Turn, AllocError>
+        requires parsing { IsParsing bytes.now self.old }
+        requires some { self.old.at < length bytes.now }
+        requires between { is_comment self.old.mode ≡ false }
+        requires byte { class (get_or bytes.now self.old.at 0) ≡ Class.Open }
+        ensures { (told : Bool) → IfOk result (λ t. IsTurn bytes.now told self.old t self.new) }
     {
-        let list = self.lists.pop();
-        self.place = place_after(byte, self.place);
-        match add(&mut self.lists, make_list(alloc, list))? {
-            Some(command) => Ok(Move::Command(command)),
-            None => Ok(Move::Goes),
+        let place = self.place;
+        if self.stack.opened.len() >= MOST_NESTED_LISTS {
+            return Ok(Turn::Refused {
+                place,
+                reason: Reason::TooDeep,
+            });
+        }
+        self.stack.open(place)?;
+        self.pass_byte(bytes);
+        Ok(Turn::Goes)
+    }
+
+    // Reads a `)`.
+    fn close(&mut self, bytes: &[u8]) -> Result<Turn, AllocError>
+        requires parsing { IsParsing bytes.now self.old }
+        requires some { self.old.at < length bytes.now }
+        requires between { is_comment self.old.mode ≡ false }
+        requires byte { class (get_or bytes.now self.old.at 0) ≡ Class.Close }
+        ensures { (told : Bool) → IfOk result (λ t. IsTurn bytes.now told self.old t self.new) }
+    {
+        if self.stack.opened.is_empty() {
+            return Ok(Turn::Refused {
+                place: self.place,
+                reason: Reason::Unbalanced,
+            });
+        }
+        let list = self.stack.close()?;
+        let added = self.stack.add(list)?;
+        self.pass_byte(bytes);
+        match added {
+            Some(command) => Ok(Turn::Command(command)),
+            None => Ok(Turn::Goes),
         }
     }
 
-    fn go_on(&mut self, byte: u8, mode: Mode) -> Move
-        requires line { self.old.place.line + 1 < 2 ^ 32 }
-        requires column { self.old.place.column + 1 < 2 ^ 32 }
-        ensures goes { result ≡ Move.Goes }
-        ensures state { self.new ≡ record self.old { place = after byte self.old.place; mode = mode } }
+    // Passes over a parenthesis.
+    fn pass_byte(&mut self, bytes: &[u8])
+        requires some { self.old.at < length bytes.now }
+        requires line { self.old.place.line + length bytes.now < 2 ^ 32 + self.old.at }
+        requires column { self.old.place.column + length bytes.now < 2 ^ 32 + self.old.at }
+        ensures { self.new ≡ passed_byte bytes.now self.old }
     {
-        self.place = place_after(byte, self.place);
-        self.mode = mode;
-        Move::Goes
+        self.place = place_after(bytes[self.at], self.place);
+        self.at += 1;
+        self.mode = Mode::Between;
     }
 
-    fn refuse(&self, place: Place) -> Move
-        ensures { result ≡ Move.Refused (begin_of (reverse self.now.lists) place) }
+    // Reads an atom of so many bytes.
+    fn add_atom(
+        &mut self,
+        alloc: Global,
+        bytes: &[u8],
+        kind: AtomKind,
+        end: usize,
+    ) -> Result<Turn, AllocError>
+        requires parsing { IsParsing bytes.now self.old }
+        requires between { is_comment self.old.mode ≡ false }
+        requires word { self.old.at + end ≤ length bytes.now }
+        ensures { (told : Bool) → IsWord (drop self.old.at bytes.now) told (Found.Atom kind end) → IfOk result (λ t. IsTurn bytes.now told self.old t self.new) }
     {
-        Move::Refused(begin(self.lists.items(), place))
+        let word = bytes_between(bytes, self.at, end);
+        let place = self.place;
+        let text = text_of(alloc, kind, word)?;
+        let added = self.stack.add(Sexpr::Atom { place, kind, text })?;
+        self.place = place_behind(word, place);
+        self.at += end;
+        self.mode = Mode::Between;
+        match added {
+            Some(command) => Ok(Turn::Command(command)),
+            None => Ok(Turn::Goes),
+        }
     }
 }

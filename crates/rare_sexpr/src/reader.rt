@@ -1,14 +1,13 @@
+//! The reader: commands of a text that is fed in pieces.
 ghost use Rattle.std.specs.Prelude.{◌≡◌, ◌++◌, ◌+◌, ◌-◌, ◌^◌, ◌≤◌, length, false, true, OnOk, OnErr};
-ghost use Rattle.rare_base.specs.Answers.{unread_at};
 ghost use Rattle.rare_sexpr.specs.Streams.{new_stream};
 ghost use Rattle.rare_sexpr.specs.Answered.{IsNext, AsksForMore};
 
-use crate::parser::{Found, Parser};
+use crate::parser::{Parser, Read};
 use crate::tree::Sexpr;
 use rare_base::{Fault, Place, Reason};
 use std::alloc::{AllocError, Global};
 use std::marker::Model;
-use std::mem;
 
 /// What comes next of a text.
 #[derive(Debug, Drop)]
@@ -31,17 +30,17 @@ pub struct Refused {
 /// Reads the commands of a text that is fed in pieces of any size.
 ///
 /// It keeps the bytes that are not yet taken, and reads each byte once, with two exceptions: the byte
-/// that ends an outermost atom is looked at again, and after want of memory the bytes that are not yet
-/// taken are read anew. Contracts see those bytes, the place of the first of them, the number of bytes
+/// that ends an atom is looked at again, and after want of memory the bytes that are not yet taken are
+/// read anew. The memory of the open lists is kept from one command to the next. Contracts see those bytes, the place of the first of them, the number of bytes
 /// fed, whether the end was told, and the refusal that stands.
 #[derive(Debug, Drop)]
 pub struct Reader {
     alloc: Global,
     bytes: Vec<u8>,
-    // How many of the bytes are taken, and how many the parser has read.
+    // How many of the bytes are taken, and the place of the first that is not.
     start: usize,
-    seen: usize,
     place: Place,
+    // Where reading goes on.
     parser: Parser,
     fed: usize,
     ended: bool,
@@ -53,7 +52,7 @@ impl Model for Reader {
 
     ghost Value = { Stream };
 
-    ghost use Rattle.rare_sexpr.specs.Kept.{stream_of, IsKept};
+    ghost use Rattle.rare_sexpr.specs.inner.Kept.{stream_of, IsKept};
 
     ghost view = { stream_of };
 
@@ -63,7 +62,7 @@ impl Model for Reader {
 const FIRST: Place = Place { line: 1, column: 1 };
 
 impl Reader {
-    /// A reader that was fed nothing. It takes no memory.
+    /// A reader that was fed nothing. It cannot fail.
     pub fn new(alloc: Global) -> Reader
         ensures { result ≡ new_stream }
     {
@@ -71,9 +70,8 @@ impl Reader {
             alloc,
             bytes: Vec::new(alloc),
             start: 0,
-            seen: 0,
             place: FIRST,
-            parser: Parser::new(alloc, FIRST),
+            parser: Parser::new(alloc, 0, FIRST),
             fed: 0,
             ended: false,
             refusal: None,
@@ -109,7 +107,7 @@ impl Reader {
         ensures { self.new ≡ self.old }
     {
         self.bytes.drain(..self.start);
-        self.seen -= self.start;
+        self.parser.at -= self.start;
         self.start = 0;
     }
 
@@ -120,20 +118,11 @@ impl Reader {
         self.ended = true;
     }
 
-    fn refuse(&mut self, place: Place) -> Fault
-        ensures fault { result ≡ Fault.Refused place Reason.Unread }
-        ensures state { self.new ≡ record self.old { refusal = Some (unread_at place) } }
-    {
-        let reason = Reason::Unread;
-        self.refusal = Some(Refused { place, reason });
-        Fault::Refused { place, reason }
-    }
-
     /// The next command.
     ///
     /// `NeedMore` and `Finished` come where no command is whole and none is refused, by whether the end
-    /// was told. A refusal stands from then on. After want of memory the reader is as before.
-    #[tactic(auto, using(crate::proofs::Readers::first_decided, crate::proofs::Readers::refused_decided, crate::proofs::Readers::finished_decided))]
+    /// was told. A refusal comes as soon as no further byte could undo it, and stands from then on.
+    /// After want of memory the reader is as before.
     pub fn next_command(&mut self) -> Result<Next, Fault>
         ensures next { IsNext self.old result self.new }
         ensures more { AsksForMore self.old result }
@@ -141,35 +130,37 @@ impl Reader {
         if let Some(Refused { place, reason }) = self.refusal {
             return Err(Fault::Refused { place, reason });
         }
-        let from = self.seen;
-        let mut parser = mem::replace(&mut self.parser, Parser::new(self.alloc, self.place));
-        self.seen = self.start;
-        match parser.read(self.alloc, &self.bytes[from..], self.ended) {
-            Ok(Found::Command { command, taken }) => {
-                self.start = from + taken;
-                self.seen = self.start;
-                self.place = parser.place;
-                self.parser = Parser::new(self.alloc, parser.place);
+        match self
+            .parser
+            .read(self.alloc, self.bytes.as_slice(), self.ended)
+        {
+            Ok(Read::Command(command)) => {
+                self.start = self.parser.at;
+                self.place = self.parser.place;
                 Ok(Next::Command(command))
             }
-            Ok(Found::Refused(place)) => Err(self.refuse(place)),
-            Ok(Found::NeedMore) => {
-                self.seen = self.bytes.len();
-                if parser.is_idle() {
-                    self.start = self.seen;
-                    self.place = parser.place;
+            Ok(Read::Refused { place, reason }) => {
+                self.parser = Parser::new(self.alloc, self.start, self.place);
+                self.refusal = Some(Refused { place, reason });
+                Err(Fault::Refused { place, reason })
+            }
+            Ok(Read::NeedMore) => {
+                if self.parser.is_outermost() {
+                    self.start = self.parser.at;
+                    self.place = self.parser.place;
                 }
-                self.parser = parser;
                 Ok(Next::NeedMore)
             }
-            Ok(Found::Finished) => {
-                self.start = self.bytes.len();
-                self.seen = self.start;
-                self.place = parser.place;
-                self.parser = Parser::new(self.alloc, parser.place);
+            Ok(Read::Finished) => {
+                self.start = self.parser.at;
+                self.place = self.parser.place;
+                self.parser = Parser::new(self.alloc, self.start, self.place);
                 Ok(Next::Finished)
             }
-            Err(_) => Err(Fault::Memory),
+            Err(_) => {
+                self.parser = Parser::new(self.alloc, self.start, self.place);
+                Err(Fault::Memory)
+            }
         }
     }
 }

@@ -1,5 +1,9 @@
-use Rattle.rare_sexpr.proofs.Parsers.{HasRead}
+use Rattle.std.proofs.Common.{length, ◌-◌}
+use Rattle.rare_sexpr.specs.inner.Parsing.{HasGone}
 use Rattle.rare_sexpr.proofs.parser.Parser.read.Given as goal
 
-abbrev pub invariant-loop-taken : goal.invariant-loop-taken
-invariant-loop-taken l = HasRead l.fn.self l.bytes l.taken l.self
+abbrev pub invariant-words : goal.invariant-words
+invariant-words l = HasGone l.bytes l.ended l.fn.self l.self
+
+abbrev pub decreases-words : goal.decreases-words
+decreases-words l = length l.bytes - l.self.at

@@ -1,0 +1,10 @@
+use Rattle.std.proofs.Common.{length, ◌-◌}
+use Rattle.rare_sexpr.specs.Bytes.{is_in_bars}
+use Rattle.rare_sexpr.specs.inner.Scan.{IsRun}
+use Rattle.rare_sexpr.proofs.scan.bars_run.Given as goal
+
+abbrev pub invariant-run : goal.invariant-run
+invariant-run l = IsRun is_in_bars l.word l.at l.i
+
+abbrev pub decreases-run : goal.decreases-run
+decreases-run l = length l.word - l.i

@@ -1,0 +1,12 @@
+pub mod Classes
+pub mod Scan
+pub mod Scanning
+pub mod Words
+pub mod Wording
+pub mod Gaps
+pub mod Stacks
+pub mod Reading
+pub mod States
+pub mod Parsing
+pub mod Kept
+pub mod Built
