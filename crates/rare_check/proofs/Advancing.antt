@@ -4,8 +4,8 @@ use Rattle.std.specs.Option.{option_map}
 use Rattle.std.proofs.lemmas.List.{append-nil}
 use Rattle.std.proofs.lemmas.List.Elements.{All-push, All-head, All-tail}
 use Rattle.std.proofs.lemmas.Option.{none-some, same_Some}
-use Rattle.rare_term.specs.declared.tree.Tree.{Tree}
-use Rattle.rare_term.specs.Trees.{tree_at}
+use Rattle.rare_sort.specs.declared.tree.Tree.{Tree}
+use Rattle.rare_sort.specs.Ids.{tree_at}
 use Rattle.rare_check.specs.declared.judged.Sides.{Sides}
 use Rattle.rare_check.specs.declared.judged.Judged.{Judged}
 use Rattle.rare_check.specs.declared.steps.StepFault.{StepFault}
@@ -18,9 +18,10 @@ use Rattle.rare_check.specs.declared.problem.Rewrite.{Rewrite}
 use Rattle.rare_check.specs.Stated.{stated_rewrite, HaveIds}
 use Rattle.rare_check.proofs.Problems.{names_stated}
 use Rattle.rare_check.specs.Verdicts.{fault_of, name_of}
-use Rattle.rare_check.specs.CommandsRead.{SidesAreIds}
-use Rattle.rare_check.specs.Judging.{IsJudged, AreAllIds, equations_at, earlier_of, bad_of, bad_in}
-use Rattle.rare_check.specs.Progress.{Progress, progress_of, progress, by_fault, unless_bad, with_place}
+use Rattle.rare_check.specs.inner.CommandsRead.{SidesAreIds}
+use Rattle.rare_check.specs.inner.Judging.{IsJudged, AreAllIds, equations_at, earlier_of, bad_of, bad_in}
+use Rattle.rare_check.specs.Checking.{Progress}
+use Rattle.rare_check.specs.inner.Progress.{progress_of, progress, by_fault, unless_bad, with_place}
 use Rattle.rare_check.proofs.Judgements.{among_ids}
 
 not_used : (es : List Equation) (s : StatedStep) → step_fault es s ≡ None → is_among (ids_of es) s.id ≡ false

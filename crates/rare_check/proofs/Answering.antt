@@ -17,14 +17,16 @@ use Rattle.rare_check.specs.declared.report.Verdict.TheVariants.{Valid}
 use Rattle.rare_check.specs.ProblemText.{StatedProblem, StatedRewrite, go_on}
 use Rattle.rare_check.specs.ProofText.{ProofCommand, Step, Conclude, proof_command, proof_from, behind}
 use Rattle.rare_check.specs.Steps.{rewrite_place}
-use Rattle.rare_check.specs.Verdicts.{Bad, fault_of, equations_of, bad_or, first_bad, is_place, concludes, verdict_by, report_by, on_proof}
-use Rattle.rare_check.specs.Progress.{Progress, progress, unless_bad, by_fault, concluded_after, with_place}
-use Rattle.rare_check.specs.Checking.{bad_after, verdicts_with, report_with, answer_from, Refuses, ValidAreTrue}
-use Rattle.rare_check.specs.TermText.{constants}
-use Rattle.rare_check.specs.Truth.{IsSound}
+use Rattle.rare_check.specs.Verdicts.{Bad, fault_of, equations_of, bad_or, first_bad, is_place, concludes, verdict_by, report_by, on_proof, ValidAreTrue}
+use Rattle.rare_check.specs.Checking.{Progress, bad_after, verdicts_with, report_with, answer_from, Refuses}
+use Rattle.rare_check.specs.inner.Progress.{progress, unless_bad, by_fault, concluded_after, with_place}
+use Rattle.rare_check.specs.TermText.{declared_by}
+use Rattle.rare_check.specs.inner.Truth.{IsSound}
 use Rattle.rare_check.proofs.Listing.{head_drop}
-use Rattle.rare_term.specs.declared.tree.Signature.{Signature}
-use Rattle.rare_term.specs.TrueRewrite.{IsTrueRewrite}
+use Rattle.rare_sort.specs.declared.declarations.Declarations.{Declarations}
+use Rattle.rare_meaning.specs.Interpretations.{AnyFunctions}
+use Rattle.rare_meaning.specs.TrueRewrite.{IsTrueRewrite}
+use Rattle.rare_meaning.proofs.RewriteLemmas.{same_is_true}
 use Rattle.std.proofs.lemmas.Option.{none-some, same_Some}
 
 -- ---- one command more
@@ -131,15 +133,15 @@ verdict_at all concluded (r ∷ rs) j zero e = let n : j ≡ j + 0 = omega arith
 verdict_at all concluded (r ∷ rs) j (suc k) e = let n : suc j + k ≡ j + suc k = omega arith in ap (λ i. list_any (nat_eq i) concluded) (sym n) ∙ verdict_at all concluded rs (suc j) k e
 
 -- where all that is concluded is true, so is each rewrite with the verdict valid
-pub valid_true : (symbols : List Signature) (problem : StatedProblem) (p : Progress) → symbols ≡ constants problem.names → IsSound symbols problem.rewrites p → ValidAreTrue problem (report_with problem p [])
-valid_true symbols problem p same h = by p.bad
+pub valid_true : (declared : Declarations) (problem : StatedProblem) (p : Progress) → declared ≡ declared_by problem.names → IsSound declared problem.rewrites p → ValidAreTrue problem (report_with problem p [])
+valid_true declared problem p same h = by p.bad
   where
     by : (b : Option Bad) → ValidAreTrue problem (report_by (bad_after b None) (verdicts_with problem.rewrites p.concluded [] 0 problem.rewrites))
     by (Some bad) = tt
     by None = λ k r at v.
-        let P : List Signature → Type 0 = λ s. IsTrueRewrite s r.left r.right in
+        let P : Declarations → Type 0 = λ d. IsTrueRewrite AnyFunctions d r.left r.right in
         let n : 0 + k ≡ k = omega arith in
-        subst P same (h.places k r (ap (λ i. list_any (nat_eq i) p.concluded) (sym n) ∙ verdict_at problem.rewrites p.concluded problem.rewrites 0 k v) at)
+        subst P same (same_is_true AnyFunctions declared r.left r.right (h.places k r (ap (λ i. list_any (nat_eq i) p.concluded) (sym n) ∙ verdict_at problem.rewrites p.concluded problem.rewrites 0 k v) at))
 
 pub refused_as : (r : Result Report Fault) (x f : Fault) (A B : Result Report Refusal) → r ≡ Err x → x ≡ f → Refuses f A → A ≡ B → IfErr r (λ fault. Refuses fault B)
 refused_as r x f A B e g h same =

@@ -1,8 +1,8 @@
 -- The trees behind ids, as terms grow.
 use Rattle.std.proofs.Common.{◌≡◌, ℕ, ◌+◌, ◌<◌, ◌≤◌, List, ◌++◌, length, ap, ◌∙◌, arith, append_assoc, length-append}
 use Rattle.std.proofs.Math.ListN.{get_or-append}
-use Rattle.rare_term.specs.declared.tree.Tree.{Tree}
-use Rattle.rare_term.specs.Trees.{tree_at, Extends}
+use Rattle.rare_sort.specs.declared.tree.Tree.{Tree}
+use Rattle.rare_sort.specs.Ids.{tree_at, Extends}
 
 pub tree_kept : (old new : List Tree) (k : ℕ) → Extends old new → k < length old → tree_at new k ≡ tree_at old k
 tree_kept old new k g lt = ap (λ ts. tree_at ts k) g.1 ∙ get_or-append old g.0 _ k lt

@@ -1,20 +1,21 @@
 -- What a checker keeps as its terms grow.
 use Rattle.std.proofs.Common.{◌≡◌, ℕ, ◌≤◌, List, [], ◌∷◌, length, map, refl, ap, sym, ◌∙◌, subst, arith}
 use Rattle.std.proofs.lemmas.List.Elements.{All-head, All-tail}
-use Rattle.rare_term.specs.declared.tree.Signature.{Signature}
-use Rattle.rare_term.specs.declared.tree.Tree.{Tree}
-use Rattle.rare_term.specs.Trees.{Extends}
+use Rattle.rare_sort.specs.declared.declarations.Declarations.{Declarations}
+use Rattle.rare_sort.specs.declared.tree.Tree.{Tree}
+use Rattle.rare_sort.specs.Ids.{Extends}
 use Rattle.rare_check.specs.declared.judged.Sides.{Sides}
 use Rattle.rare_check.specs.declared.judged.Judged.{Judged}
 use Rattle.rare_check.specs.declared.problem.Problem.{Problem}
-use Rattle.rare_check.specs.CommandsRead.{SidesAreIds}
-use Rattle.rare_check.specs.Judging.{IsJudged, AreAllIds, equations_at, bad_in}
+use Rattle.rare_check.specs.inner.CommandsRead.{SidesAreIds}
+use Rattle.rare_check.specs.inner.Judging.{IsJudged, AreAllIds, equations_at, bad_in}
 use Rattle.rare_check.specs.ProblemText.{StatedRewrite}
 use Rattle.rare_check.specs.ProofText.{ProofCommand}
-use Rattle.rare_check.specs.Progress.{Progress, progress_of, progress}
+use Rattle.rare_check.specs.Checking.{Progress}
+use Rattle.rare_check.specs.inner.Progress.{progress_of, progress}
 use Rattle.rare_check.specs.Stated.{stated, stated_rewrite, HaveIds}
-use Rattle.rare_check.specs.Truth.{IsSound}
-use Rattle.rare_check.specs.Kept.{IsHeld}
+use Rattle.rare_check.specs.inner.Truth.{IsSound}
+use Rattle.rare_check.specs.inner.Kept.{IsHeld}
 use Rattle.rare_check.proofs.Growing.{tree_kept, longer}
 use Rattle.rare_check.proofs.Problems.{ids_kept, stated_kept}
 use Rattle.rare_check.proofs.Soundness.{true_progress}
@@ -42,10 +43,10 @@ judged_kept n m j le h = record {
 }
 
 -- the terms grow
-pub held_kept : (old new : List Tree) (symbols grown : List Signature) (p : Problem) (j : Judged) → Extends old new → grown ≡ symbols → IsHeld old symbols p j → IsHeld new grown p j
-held_kept old new symbols grown p j g same h =
+pub held_kept : (old new : List Tree) (declared grown : Declarations) (p : Problem) (j : Judged) → Extends old new → grown ≡ declared → IsHeld old declared p j → IsHeld new grown p j
+held_kept old new declared grown p j g same h =
     let le = longer old new g in
-    let P : List Signature → Type 0 = λ s. IsSound s (map (stated_rewrite old) p.rewrites) (progress_of old j) in
+    let P : Declarations → Type 0 = λ s. IsSound s (map (stated_rewrite old) p.rewrites) (progress_of old j) in
     let Q : List StatedRewrite → Type 0 = λ rs. IsSound grown rs (progress_of old j) in
     let R : Progress → Type 0 = λ q. IsSound grown (map (stated_rewrite new) p.rewrites) q in
     record {
@@ -56,19 +57,19 @@ held_kept old new symbols grown p j g same h =
     }
 
 -- one command more
-pub held_more : (ts : List Tree) (symbols : List Signature) (p : Problem) (old new : Judged) (c : ProofCommand) → IsHeld ts symbols p old → IsJudged (length ts) new →
-    progress_of ts new ≡ progress (stated ts p) (progress_of ts old) c → IsHeld ts symbols p new
-held_more ts symbols p old new c h kept same =
-    let R : Progress → Type 0 = λ q. IsSound symbols (map (stated_rewrite ts) p.rewrites) q in
+pub held_more : (ts : List Tree) (declared : Declarations) (p : Problem) (old new : Judged) (c : ProofCommand) → IsHeld ts declared p old → IsJudged (length ts) new →
+    progress_of ts new ≡ progress (stated ts p) (progress_of ts old) c → IsHeld ts declared p new
+held_more ts declared p old new c h kept same =
+    let R : Progress → Type 0 = λ q. IsSound declared (map (stated_rewrite ts) p.rewrites) q in
     record {
       sides = h.sides;
       names = h.names;
       matched = kept;
-      sound = subst R (sym same) (true_progress symbols (stated ts p) (progress_of ts old) c h.sound);
+      sound = subst R (sym same) (true_progress declared (stated ts p) (progress_of ts old) c h.sound);
     }
 
 -- the same progress
-pub held_same : (ts : List Tree) (symbols : List Signature) (p : Problem) (old new : Judged) → IsHeld ts symbols p old → IsJudged (length ts) new → progress_of ts new ≡ progress_of ts old → IsHeld ts symbols p new
-held_same ts symbols p old new h kept same =
-    let R : Progress → Type 0 = λ q. IsSound symbols (map (stated_rewrite ts) p.rewrites) q in
+pub held_same : (ts : List Tree) (declared : Declarations) (p : Problem) (old new : Judged) → IsHeld ts declared p old → IsJudged (length ts) new → progress_of ts new ≡ progress_of ts old → IsHeld ts declared p new
+held_same ts declared p old new h kept same =
+    let R : Progress → Type 0 = λ q. IsSound declared (map (stated_rewrite ts) p.rewrites) q in
     record { sides = h.sides; names = h.names; matched = kept; sound = subst R (sym same) h.sound }

@@ -7,22 +7,50 @@ use Rattle.std.proofs.lemmas.List.{length-take}
 use Rattle.std.proofs.lemmas.List.Elements.{All-head, All-tail}
 use Rattle.std.specs.Option.{option_map}
 use Rattle.std.specs.List.{position_or_len}
-use Rattle.rare_term.specs.declared.tree.Head.{Head}
-use Rattle.rare_term.specs.declared.tree.Tree.{Tree}
-use Rattle.rare_term.specs.Trees.{tree_at, IsOneToOne}
-use Rattle.rare_term.specs.SameTrees.{tree_eq, head_eq}
+use Rattle.rare_sort.specs.declared.head.Head.{Head}
+use Rattle.rare_sort.specs.declared.tree.Tree.{Tree}
+use Rattle.rare_sort.specs.Ids.{tree_at, IsOneToOne}
+use Rattle.rare_sort.specs.Sameness.{tree_eq, head_eq, linear_eq, linears_eq}
+use Rattle.rare_linear.specs.Linears.{LinearExpression}
 use Rattle.rare_check.specs.declared.judged.Sides.{Sides}
 use Rattle.rare_check.specs.Steps.{Equation, sides_named, premises_of, put_before, pair_eq, pairs_eq, differing, ids_of, rule_fault, step_fault, first_failing, conditions}
 use Rattle.rare_check.specs.declared.steps.StepFault.TheVariants.{IdUsed, NoSuchStep}
 use Rattle.rare_check.specs.Names.{is_among}
 use Rattle.rare_check.specs.ProofText.{StatedStep}
-use Rattle.rare_check.specs.Judging.{equations_at, AreAllIds, pairs_at, unless_same}
-use Rattle.rare_check.specs.CommandsRead.{pair_at, SidesAreIds}
+use Rattle.rare_check.specs.inner.Judging.{equations_at, AreAllIds, pairs_at, unless_same}
+use Rattle.rare_check.specs.inner.CommandsRead.{pair_at, SidesAreIds}
 use Rattle.rare_check.proofs.Listing.{split_at, take_one}
-use Rattle.rare_term.proofs.SameTreesLemmas.{tree_eq-Decides, head_eq-Decides}
+use Rattle.rare_sort.proofs.SamenessLemmas.{tree_eq-Decides, head_eq-Decides, linear_eq-Decides}
 
 pub heads_same : (a b : Head) (r : Bool) → IsTrue r ↔ (a ≡ b) → r ≡ head_eq a b
 heads_same a b r e = same_from_decides r (head_eq a b) (e.0, e.1) (head_eq-Decides a b)
+
+pub indices_same : (a b : LinearExpression) (r : Bool) → IsTrue r ↔ (a ≡ b) → r ≡ linear_eq a b
+indices_same a b r e = same_from_decides r (linear_eq a b) (e.0, e.1) (linear_eq-Decides a b)
+
+pub linears_lengths : (xs ys : List LinearExpression) → (length xs ≡ length ys → ⊥) → false ≡ linears_eq xs ys
+linears_lengths [] [] ne = absurd (ne refl)
+linears_lengths [] (y ∷ ys) ne = refl
+linears_lengths (x ∷ xs) [] ne = refl
+linears_lengths (x ∷ xs) (y ∷ ys) ne = and_false (linear_eq x y) _ (linears_lengths xs ys (λ e. ne (ap suc e)))
+  where
+    and_false : (b c : Bool) → false ≡ c → false ≡ (b && c)
+    and_false true c e = e
+    and_false false c e = refl
+
+linears_at : (xs ys : List LinearExpression) (k : ℕ) (x y : LinearExpression) → slice_get xs k ≡ Some x → slice_get ys k ≡ Some y →
+    linears_eq (drop k xs) (drop k ys) ≡ (linear_eq x y && linears_eq (drop (suc k) xs) (drop (suc k) ys))
+linears_at [] ys k x y a b = absurd (none-some x a)
+linears_at (p ∷ xs) [] k x y a b = absurd (none-some y b)
+linears_at (p ∷ xs) (q ∷ ys) zero x y a b = λ i. linear_eq (same_Some p x a i) (same_Some q y b i) && linears_eq xs ys
+linears_at (p ∷ xs) (q ∷ ys) (suc k) x y a b = linears_at xs ys k x y a b
+
+-- what is left to compare after the pair at a place
+pub linears_more : (xs ys : List LinearExpression) (k : ℕ) (x y : LinearExpression) (same : Bool) → slice_get xs k ≡ Some x → slice_get ys k ≡ Some y → same ≡ linear_eq x y →
+    linears_eq (drop k xs) (drop k ys) ≡ (same && linears_eq (drop (k + 1) xs) (drop (k + 1) ys))
+linears_more xs ys k x y same a b e =
+    let next : suc k ≡ k + 1 = omega arith in
+    linears_at xs ys k x y a b ∙ λ i. sym e i && linears_eq (drop (next i) xs) (drop (next i) ys)
 
 -- different ids have different trees
 pub terms_same : (ts : List Tree) (i j : ℕ) → IsOneToOne ts → i < length ts → j < length ts → nat_eq i j ≡ tree_eq (tree_at ts i) (tree_at ts j)

@@ -10,3 +10,4 @@ pub mod Advancing
 pub mod Answering
 pub mod Holding
 pub mod Starting
+pub mod StepParts

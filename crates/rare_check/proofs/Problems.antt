@@ -8,8 +8,8 @@ use Rattle.rare_sexpr.specs.declared.tree.Sexpr.{Sexpr}
 use Rattle.rare_base.specs.Answers.{Refusal, unread_at}
 use Rattle.rare_sexpr.specs.Commands.{Commands, put_first}
 use Rattle.rare_sexpr.specs.Tree.{text_of, items_of, place_of}
-use Rattle.rare_term.specs.declared.tree.Tree.{Tree}
-use Rattle.rare_term.specs.Trees.{Extends}
+use Rattle.rare_sort.specs.declared.tree.Tree.{Tree}
+use Rattle.rare_sort.specs.Ids.{Extends}
 use Rattle.rare_check.specs.declared.problem.Rewrite.{Rewrite}
 use Rattle.rare_check.specs.Names.{may_declare}
 use Rattle.rare_check.specs.Forms.{is_symbol, is_word_at}

@@ -3,16 +3,17 @@ use Rattle.std.proofs.Common.{◌≡◌, ℕ, Bool, true, false, nat_eq, List, [
 use Rattle.std.specs.List.{list_any}
 use Rattle.std.proofs.lemmas.Bool.{and_parts, eqb-true}
 use Rattle.std.proofs.lemmas.Option.{none-some, same_Some}
-use Rattle.rare_term.specs.declared.tree.Signature.{Signature}
-use Rattle.rare_term.specs.declared.tree.Tree.{Tree}
-use Rattle.rare_term.specs.declared.tree.Tree.TheViews.{roll-out-Tree}
-use Rattle.rare_term.specs.Trees.{head_of, args_of}
-use Rattle.rare_term.specs.SameTrees.{head_eq, tree_eq}
-use Rattle.rare_term.specs.Interpretations.{Interpretation, IsInterpretation}
-use Rattle.rare_term.specs.Meaning.{meaning, applied}
-use Rattle.rare_term.specs.TrueRewrite.{IsTrueRewrite}
-use Rattle.rare_term.proofs.MeaningLemmas.{meaning-made, true_refl, true_trans}
-use Rattle.rare_term.proofs.SameTreesLemmas.{tree_eq-Decides, head_eq-Decides}
+use Rattle.rare_sort.specs.declared.declarations.Declarations.{Declarations}
+use Rattle.rare_sort.specs.declared.tree.Tree.{Tree}
+use Rattle.rare_sort.specs.declared.tree.Tree.TheViews.{roll-out-Tree}
+use Rattle.rare_sort.specs.Trees.{node, head_of, indices_of, args_of}
+use Rattle.rare_sort.specs.Each.{EachPair}
+use Rattle.rare_sort.specs.Sameness.{head_eq, linears_eq, tree_eq}
+use Rattle.rare_meaning.specs.Interpretations.{AnyFunctions}
+use Rattle.rare_meaning.specs.MeaningLaws.{StepsKeepMeaning}
+use Rattle.rare_meaning.specs.TrueRewrite.{MeansSame}
+use Rattle.rare_meaning.proofs.RewriteLemmas.{steps_keep_meaning}
+use Rattle.rare_sort.proofs.SamenessLemmas.{tree_eq-Decides, head_eq-Decides, linears_eq-Decides}
 use Rattle.rare_check.specs.declared.steps.StepRule.{StepRule}
 use Rattle.rare_check.specs.declared.steps.StepRule.TheVariants.{Refl, Cong, Trans}
 use Rattle.rare_check.specs.declared.steps.StepFault.{StepFault}
@@ -22,8 +23,9 @@ use Rattle.rare_check.specs.ProblemText.{StatedProblem, StatedRewrite}
 use Rattle.rare_check.specs.ProofText.{ProofCommand, Step, Conclude, StatedStep}
 use Rattle.rare_check.specs.Steps.{Equation, ids_of, sides_named, premises_of, put_before, first_failing, pair_eq, pairs_eq, differing, have_same_head, are_joined, conditions, rule_fault, step_fault, rewrite_place, rewrite_sides, sides_of, equation_fault, conclusion_fault}
 use Rattle.rare_check.proofs.Answering.{any-push}
-use Rattle.rare_check.specs.Truth.{AreTrue, PlacesAreTrue, IsSound}
-use Rattle.rare_check.specs.Progress.{Progress, progress, unless_bad, by_fault, with_place}
+use Rattle.rare_check.specs.inner.Truth.{AreTrue, PlacesAreTrue, IsSound}
+use Rattle.rare_check.specs.Checking.{Progress}
+use Rattle.rare_check.specs.inner.Progress.{progress, unless_bad, by_fault, with_place}
 use Rattle.rare_check.specs.Verdicts.{Bad, fault_of, equations_of}
 
 -- a first condition that does not fail is met
@@ -34,20 +36,20 @@ met false f cs e = cc
 same_tree : (t u : Tree) → tree_eq t u ≡ true → t ≡ u
 same_tree t u e = (tree_eq-Decides t u).0 e
 
-module _ (symbols : List Signature) where
+module _ (declared : Declarations) where
   -- both sides of a pair have one value everywhere
   abbrev pub IsTruePair : Tree × Tree → Type 0
-  IsTruePair p = IsTrueRewrite symbols p.0 p.1
+  IsTruePair p = MeansSame AnyFunctions declared p.0 p.1
 
   abbrev pub AreTruePairs : List (Tree × Tree) → Type 0
   AreTruePairs [] = Unit {0}
   AreTruePairs (p ∷ ps) = IsTruePair p × AreTruePairs ps
 
-  pub true_push : (es fs : List Equation) → AreTrue symbols es → AreTrue symbols fs → AreTrue symbols (es ++ fs)
+  pub true_push : (es fs : List Equation) → AreTrue declared es → AreTrue declared fs → AreTrue declared (es ++ fs)
   true_push [] fs h g = g
   true_push (e ∷ es) fs h g = (h.0, true_push es fs h.1 g)
 
-  true_named : (es : List Equation) (id : List ℕ) (p : Tree × Tree) → AreTrue symbols es → sides_named es id ≡ Some p → IsTruePair p
+  true_named : (es : List Equation) (id : List ℕ) (p : Tree × Tree) → AreTrue declared es → sides_named es id ≡ Some p → IsTruePair p
   true_named [] id p h e = absurd (none-some p e)
   true_named (q ∷ es) id p h e = by (bytes_eq id q.id) e (true_named es id p h.1)
     where
@@ -55,12 +57,12 @@ module _ (symbols : List Signature) where
       by true e ih = let same : ◌≡◌ {A = Tree × Tree} (q.left, q.right) p = same_Some (q.left, q.right) p e in subst IsTruePair same h.0
       by false e ih = ih e
 
-  true_premises : (es : List Equation) (ids : List (List ℕ)) (ps : List (Tree × Tree)) → AreTrue symbols es → premises_of es ids ≡ Some ps → AreTruePairs ps
+  true_premises : (es : List Equation) (ids : List (List ℕ)) (ps : List (Tree × Tree)) → AreTrue declared es → premises_of es ids ≡ Some ps → AreTruePairs ps
   true_premises es [] ps h e = subst AreTruePairs (same_Some [] ps e) tt
   true_premises es (id ∷ ids) ps h e = by (sides_named es id) refl (premises_of es ids) refl e (true_premises es ids)
     where
       by : (p : Option (Tree × Tree)) → sides_named es id ≡ p → (qs : Option (List (Tree × Tree))) → premises_of es ids ≡ qs → put_before p qs ≡ Some ps →
-          ((rs : List (Tree × Tree)) → AreTrue symbols es → premises_of es ids ≡ Some rs → AreTruePairs rs) → AreTruePairs ps
+          ((rs : List (Tree × Tree)) → AreTrue declared es → premises_of es ids ≡ Some rs → AreTruePairs rs) → AreTruePairs ps
       by None n qs m e ih = absurd (none-some ps e)
       by (Some p) n None m e ih = absurd (none-some ps e)
       by (Some p) n (Some qs) m e ih = subst AreTruePairs (same_Some (p ∷ qs) ps e) (true_named es id p h n, ih qs h m)
@@ -77,33 +79,35 @@ module _ (symbols : List Signature) where
       let same : p ≡ q = (λ i. (l i, r i)) in
       (subst IsTruePair same h.0, true_pairs_eq ps qs parts.1 h.1)
 
-  -- arguments that are equal or equated by premises have the same values
-  same_values : (i : Interpretation) → IsInterpretation symbols i → (ss ts : List Tree) → length ss ≡ length ts → AreTruePairs (differing ss ts) →
-      map (meaning symbols i) ss ≡ map (meaning symbols i) ts
-  same_values i fits [] [] n h = refl
-  same_values i fits [] (t ∷ ts) n h = absurd (omega (arith, n))
-  same_values i fits (s ∷ ss) [] n h = absurd (omega (arith, n))
-  same_values i fits (s ∷ ss) (t ∷ ts) n h = by (tree_eq s t) refl h (same_values i fits ss ts (omega (arith, n)))
+  abbrev steps : StepsKeepMeaning AnyFunctions declared
+  steps = steps_keep_meaning AnyFunctions declared
+
+  -- arguments that are equal or equated by premises mean the same
+  same_args : (ss ts : List Tree) → length ss ≡ length ts → AreTruePairs (differing ss ts) → EachPair (MeansSame AnyFunctions declared) ss ts
+  same_args [] [] n h = tt
+  same_args [] (t ∷ ts) n h = absurd (omega (arith, n))
+  same_args (s ∷ ss) [] n h = absurd (omega (arith, n))
+  same_args (s ∷ ss) (t ∷ ts) n h = by (tree_eq s t) refl h (same_args ss ts (omega (arith, n)))
     where
       by : (b : Bool) → tree_eq s t ≡ b → AreTruePairs (if b then differing ss ts else ((s, t) ∷ differing ss ts)) →
-          (AreTruePairs (differing ss ts) → map (meaning symbols i) ss ≡ map (meaning symbols i) ts) → map (meaning symbols i) (s ∷ ss) ≡ map (meaning symbols i) (t ∷ ts)
-      by true e h ih = let first = ap (meaning symbols i) (same_tree s t e) in let rest = ih h in λ k. first k ∷ rest k
-      by false e h ih = let first = h.0.same i fits in let rest = ih h.1 in λ k. first k ∷ rest k
+          (AreTruePairs (differing ss ts) → EachPair (MeansSame AnyFunctions declared) ss ts) → EachPair (MeansSame AnyFunctions declared) (s ∷ ss) (t ∷ ts)
+      by true e h ih = let P : Tree → Type 0 = λ u. MeansSame AnyFunctions declared s u in (subst P (same_tree s t e) (steps.reflexive s), ih h)
+      by false e h ih = (h.0, ih h.1)
 
-  meaning-parts : (i : Interpretation) (t : Tree) → meaning symbols i t ≡ applied symbols i (head_of t) (map (meaning symbols i) (args_of t))
-  meaning-parts i t = ap (meaning symbols i) (sym (roll-out-Tree t)) ∙ meaning-made symbols i (head_of t) (args_of t)
+  true_cong : (a b : Tree) → have_same_head a b ≡ true → AreTruePairs (differing (args_of a) (args_of b)) → MeansSame AnyFunctions declared a b
+  true_cong a b e h =
+      let parts = and_parts (head_eq (head_of a) (head_of b)) _ e in
+      let rest = and_parts (linears_eq (indices_of a) (indices_of b)) _ parts.1 in
+      let head : head_of a ≡ head_of b = (head_eq-Decides (head_of a) (head_of b)).0 parts.0 in
+      let indices : indices_of a ≡ indices_of b = (linears_eq-Decides (indices_of a) (indices_of b)).0 rest.0 in
+      let args = same_args (args_of a) (args_of b) (eqb-true _ _ rest.1) h in
+      let left : node (head_of a) (indices_of a) (args_of a) ≡ a = roll-out-Tree a in
+      let right : node (head_of a) (indices_of a) (args_of b) ≡ b = (λ i. node (head i) (indices i) (args_of b)) ∙ roll-out-Tree b in
+      let P : Tree → Type 0 = λ x. MeansSame AnyFunctions declared x b in
+      let Q : Tree → Type 0 = λ x. MeansSame AnyFunctions declared (node (head_of a) (indices_of a) (args_of a)) x in
+      subst P left (subst Q right (steps.congruent (head_of a) (indices_of a) (args_of a) (args_of b) args))
 
-  true_cong : (a b : Tree) → have_same_head a b ≡ true → AreTruePairs (differing (args_of a) (args_of b)) → IsTrueRewrite symbols a b
-  true_cong a b e h = record {
-    same = λ i fits.
-        let parts = and_parts (head_eq (head_of a) (head_of b)) _ e in
-        let head : head_of a ≡ head_of b = (head_eq-Decides (head_of a) (head_of b)).0 parts.0 in
-        let count : length (args_of a) ≡ length (args_of b) = eqb-true _ _ parts.1 in
-        meaning-parts i a ∙ ap (λ k. applied symbols i k (map (meaning symbols i) (args_of a))) head
-        ∙ ap (applied symbols i (head_of b)) (same_values i fits (args_of a) (args_of b) count h) ∙ sym (meaning-parts i b);
-  }
-
-  true_joined : (ps : List (Tree × Tree)) (a c : Tree) → AreTruePairs ps → are_joined ps a c ≡ true → IsTrueRewrite symbols a c
+  true_joined : (ps : List (Tree × Tree)) (a c : Tree) → AreTruePairs ps → are_joined ps a c ≡ true → MeansSame AnyFunctions declared a c
   true_joined [] a c h e = absurd cc
   true_joined (p ∷ []) a c h e = absurd cc
   true_joined (p ∷ q ∷ []) a c h e =
@@ -112,18 +116,18 @@ module _ (symbols : List Signature) where
       let start : p.0 ≡ a = same_tree p.0 a parts.0 in
       let middle : p.1 ≡ q.0 = same_tree p.1 q.0 joined.0 in
       let end : q.1 ≡ c = same_tree q.1 c joined.1 in
-      let P : Tree → Type 0 = λ x. IsTrueRewrite symbols x q.1 in
-      let Q : Tree → Type 0 = λ x. IsTrueRewrite symbols x c in
-      let R : Tree → Type 0 = λ x. IsTrueRewrite symbols p.0 x in
-      subst Q start (subst R end (true_trans symbols p.0 p.1 q.1 h.0 (subst P (sym middle) h.1.0)))
+      let P : Tree → Type 0 = λ x. MeansSame AnyFunctions declared x q.1 in
+      let Q : Tree → Type 0 = λ x. MeansSame AnyFunctions declared x c in
+      let R : Tree → Type 0 = λ x. MeansSame AnyFunctions declared p.0 x in
+      subst Q start (subst R end (steps.transitive p.0 p.1 q.1 h.0 (subst P (sym middle) h.1.0)))
   true_joined (p ∷ q ∷ r ∷ ps) a c h e = absurd cc
 
-  true_by_rule : (rule : StepRule) (a b : Tree) (ps : List (Tree × Tree)) → AreTruePairs ps → first_failing (conditions rule a b ps) ≡ None → IsTrueRewrite symbols a b
+  true_by_rule : (rule : StepRule) (a b : Tree) (ps : List (Tree × Tree)) → AreTruePairs ps → first_failing (conditions rule a b ps) ≡ None → MeansSame AnyFunctions declared a b
   true_by_rule Refl a b ps h e =
       let count = met (nat_eq (length ps) 0) PremiseCount ((tree_eq a b, NotEqual) ∷ []) e in
       let same = met (tree_eq a b) NotEqual [] count.1 in
-      let P : Tree → Type 0 = λ x. IsTrueRewrite symbols a x in
-      subst P (same_tree a b same.0) (true_refl symbols a)
+      let P : Tree → Type 0 = λ x. MeansSame AnyFunctions declared a x in
+      subst P (same_tree a b same.0) (steps.reflexive a)
   true_by_rule Cong a b ps h e =
       let pairs = differing (args_of a) (args_of b) in
       let head = met (have_same_head a b) OtherHead ((nat_eq (length ps) (length pairs), PremiseCount) ∷ (pairs_eq ps pairs, OtherPremise) ∷ []) e in
@@ -136,26 +140,26 @@ module _ (symbols : List Signature) where
       true_joined ps a b h joined.0
 
   -- a valid step is true where the equations before it are
-  pub true_step : (earlier : List Equation) (s : StatedStep) → AreTrue symbols earlier → step_fault earlier s ≡ None → IsTrueRewrite symbols s.left s.right
+  pub true_step : (earlier : List Equation) (s : StatedStep) → AreTrue declared earlier → step_fault earlier s ≡ None → MeansSame AnyFunctions declared s.left s.right
   true_step earlier s h e = by (is_among (ids_of earlier) s.id) e
     where
-      premised : (ps : Option (List (Tree × Tree))) → premises_of earlier s.premises ≡ ps → rule_fault s ps ≡ None → IsTrueRewrite symbols s.left s.right
+      premised : (ps : Option (List (Tree × Tree))) → premises_of earlier s.premises ≡ ps → rule_fault s ps ≡ None → MeansSame AnyFunctions declared s.left s.right
       premised None m e = absurd cc
       premised (Some ps) m e = true_by_rule s.rule s.left s.right ps (true_premises earlier s.premises ps h m) e
 
-      by : (b : Bool) → (if b then Some IdUsed else rule_fault s (premises_of earlier s.premises)) ≡ None → IsTrueRewrite symbols s.left s.right
+      by : (b : Bool) → (if b then Some IdUsed else rule_fault s (premises_of earlier s.premises)) ≡ None → MeansSame AnyFunctions declared s.left s.right
       by true e = absurd cc
       by false e = premised (premises_of earlier s.premises) refl e
 
   -- the rewrite that a valid conclusion names is true where the equations before it are
-  pub true_conclusion : (rewrites : List StatedRewrite) (earlier : List Equation) (name id : List ℕ) (k : ℕ) (r : StatedRewrite) → AreTrue symbols earlier →
-      conclusion_fault rewrites earlier name id ≡ None → rewrite_place rewrites name ≡ Some k → slice_get rewrites k ≡ Some r → IsTrueRewrite symbols r.left r.right
+  pub true_conclusion : (rewrites : List StatedRewrite) (earlier : List Equation) (name id : List ℕ) (k : ℕ) (r : StatedRewrite) → AreTrue declared earlier →
+      conclusion_fault rewrites earlier name id ≡ None → rewrite_place rewrites name ≡ Some k → slice_get rewrites k ≡ Some r → MeansSame AnyFunctions declared r.left r.right
   true_conclusion rewrites earlier name id k r h e place at =
       let sides : rewrite_sides rewrites (rewrite_place rewrites name) ≡ Some (r.left, r.right) = ap (rewrite_sides rewrites) place ∙ ap sides_of at in
       let fault : equation_fault (Some (r.left, r.right)) (sides_named earlier id) ≡ None = ap (λ x. equation_fault x (sides_named earlier id)) (sym sides) ∙ e in
       by (sides_named earlier id) refl fault
     where
-      by : (s : Option (Tree × Tree)) → sides_named earlier id ≡ s → equation_fault (Some (r.left, r.right)) s ≡ None → IsTrueRewrite symbols r.left r.right
+      by : (s : Option (Tree × Tree)) → sides_named earlier id ≡ s → equation_fault (Some (r.left, r.right)) s ≡ None → MeansSame AnyFunctions declared r.left r.right
       by None n f = absurd cc
       by (Some s) n f =
           let same = and_parts _ _ (met (pair_eq s (r.left, r.right)) OtherEquation [] f).0 in
@@ -165,47 +169,47 @@ module _ (symbols : List Signature) where
           let both : ◌≡◌ {A = Tree × Tree} s (r.left, r.right) = (λ i. (l i, t i)) in
           subst P both (true_named earlier id s h n)
 
-  pub true_equations : (problem : StatedProblem) (earlier : List Equation) (c : ProofCommand) → AreTrue symbols earlier → fault_of problem earlier c ≡ None → AreTrue symbols (equations_of c)
+  pub true_equations : (problem : StatedProblem) (earlier : List Equation) (c : ProofCommand) → AreTrue declared earlier → fault_of problem earlier c ≡ None → AreTrue declared (equations_of c)
   true_equations problem earlier (Step s) h e = (true_step earlier s h e, tt)
   true_equations problem earlier (Conclude name id) h e = tt
 
 -- ---- what is concluded stays true, command by command
 
-module _ (symbols : List Signature) (problem : StatedProblem) where
-  true_place : (p : Progress) (name id : List ℕ) (j : ℕ) → IsSound symbols problem.rewrites p → conclusion_fault problem.rewrites p.earlier name id ≡ None →
-      rewrite_place problem.rewrites name ≡ Some j → PlacesAreTrue symbols problem.rewrites (with_place p.concluded (Some j))
+module _ (declared : Declarations) (problem : StatedProblem) where
+  true_place : (p : Progress) (name id : List ℕ) (j : ℕ) → IsSound declared problem.rewrites p → conclusion_fault problem.rewrites p.earlier name id ≡ None →
+      rewrite_place problem.rewrites name ≡ Some j → PlacesAreTrue declared problem.rewrites (with_place p.concluded (Some j))
   true_place p name id j h f e k r any at = by (list_any (nat_eq j) p.concluded) any
     where
-      last : (b : Bool) → list_any (nat_eq k) p.concluded ≡ b → (b || nat_eq k j) ≡ true → IsTrueRewrite symbols r.left r.right
+      last : (b : Bool) → list_any (nat_eq k) p.concluded ≡ b → (b || nat_eq k j) ≡ true → MeansSame AnyFunctions declared r.left r.right
       last true is any = h.places k r is at
-      last false is any = true_conclusion symbols problem.rewrites p.earlier name id k r h.steps f (e ∙ ap Some (sym (eqb-true k j any))) at
+      last false is any = true_conclusion declared problem.rewrites p.earlier name id k r h.steps f (e ∙ ap Some (sym (eqb-true k j any))) at
 
-      by : (b : Bool) → list_any (nat_eq k) (if b then p.concluded else (p.concluded ++ j ∷ [])) ≡ true → IsTrueRewrite symbols r.left r.right
+      by : (b : Bool) → list_any (nat_eq k) (if b then p.concluded else (p.concluded ++ j ∷ [])) ≡ true → MeansSame AnyFunctions declared r.left r.right
       by true any = h.places k r any at
       by false any = last (list_any (nat_eq k) p.concluded) refl (sym (any-push (nat_eq k) p.concluded j) ∙ any)
 
-  true_places : (p : Progress) (name id : List ℕ) → IsSound symbols problem.rewrites p → conclusion_fault problem.rewrites p.earlier name id ≡ None →
-      (place : Option ℕ) → rewrite_place problem.rewrites name ≡ place → PlacesAreTrue symbols problem.rewrites (with_place p.concluded place)
+  true_places : (p : Progress) (name id : List ℕ) → IsSound declared problem.rewrites p → conclusion_fault problem.rewrites p.earlier name id ≡ None →
+      (place : Option ℕ) → rewrite_place problem.rewrites name ≡ place → PlacesAreTrue declared problem.rewrites (with_place p.concluded place)
   true_places p name id h f None e = h.places
   true_places p name id h f (Some j) e = true_place p name id j h f e
 
-  true_command : (p : Progress) (c : ProofCommand) → IsSound symbols problem.rewrites p → fault_of problem p.earlier c ≡ None → IsSound symbols problem.rewrites (by_fault problem p c None)
+  true_command : (p : Progress) (c : ProofCommand) → IsSound declared problem.rewrites p → fault_of problem p.earlier c ≡ None → IsSound declared problem.rewrites (by_fault problem p c None)
   true_command p (Step s) h f = record {
-    steps = true_push symbols p.earlier _ h.steps (true_equations symbols problem p.earlier (Step s) h.steps f);
+    steps = true_push declared p.earlier _ h.steps (true_equations declared problem p.earlier (Step s) h.steps f);
     places = h.places;
   }
   true_command p (Conclude name id) h f = record {
-    steps = true_push symbols p.earlier [] h.steps tt;
+    steps = true_push declared p.earlier [] h.steps tt;
     places = true_places p name id h f (rewrite_place problem.rewrites name) refl;
   }
 
-  pub true_progress : (p : Progress) (c : ProofCommand) → IsSound symbols problem.rewrites p → IsSound symbols problem.rewrites (progress problem p c)
+  pub true_progress : (p : Progress) (c : ProofCommand) → IsSound declared problem.rewrites p → IsSound declared problem.rewrites (progress problem p c)
   true_progress p c h = by p.bad (fault_of problem p.earlier c) refl
     where
-      by : (b : Option Bad) (f : Option StepFault) → fault_of problem p.earlier c ≡ f → IsSound symbols problem.rewrites (unless_bad problem p c b)
+      by : (b : Option Bad) (f : Option StepFault) → fault_of problem p.earlier c ≡ f → IsSound declared problem.rewrites (unless_bad problem p c b)
       by (Some bad) f e = h
       by None f e = faults (fault_of problem p.earlier c) refl
         where
-          faults : (g : Option StepFault) → fault_of problem p.earlier c ≡ g → IsSound symbols problem.rewrites (by_fault problem p c g)
+          faults : (g : Option StepFault) → fault_of problem p.earlier c ≡ g → IsSound declared problem.rewrites (by_fault problem p c g)
           faults (Some fault) e = record { steps = h.steps; places = h.places }
           faults None e = true_command p c h e

@@ -6,15 +6,15 @@ use Rattle.std.proofs.lemmas.List.Elements.{All-push}
 use Rattle.rare_sexpr.specs.declared.tree.Sexpr.{Sexpr}
 use Rattle.rare_sexpr.specs.Tree.{items_of, text_of}
 use Rattle.rare_sexpr.proofs.Trees.{go_out}
-use Rattle.rare_term.specs.declared.tree.Head.{Head}
-use Rattle.rare_term.specs.declared.tree.TermId.{TermId}
-use Rattle.rare_term.specs.declared.tree.Tree.{Tree}
-use Rattle.rare_term.specs.Trees.{tree_at, trees_at, AreIds, Extends}
+use Rattle.rare_sort.specs.declared.head.Head.{Head}
+use Rattle.rare_sort.specs.declared.tree.TermId.{TermId}
+use Rattle.rare_sort.specs.declared.tree.Tree.{Tree}
+use Rattle.rare_sort.specs.Ids.{tree_at, trees_at, AreIds, Extends}
 use Rattle.rare_check.specs.declared.stop.Stop.{Stop}
 use Rattle.rare_check.specs.declared.stop.Stop.TheVariants.{Unread, Memory}
 use Rattle.rare_check.specs.Forms.{is_symbol, and_then}
-use Rattle.rare_check.specs.TermText.{term_at, term_step, named, application, applied_to, all_of, made_or, operator_at}
-use Rattle.rare_check.specs.Answered.{Stops}
+use Rattle.rare_check.specs.TermText.{term_at, term_step, named, list_term, applied_to, all_of, made_or, operator_at}
+use Rattle.rare_check.specs.inner.Answered.{Stops}
 use Rattle.rare_check.proofs.Growing.{tree_kept, longer}
 use Rattle.rare_check.proofs.Listing.{split_at, take_one}
 
@@ -25,17 +25,17 @@ module _ (names : List (List ℕ)) where
   pub read_symbol : (e : Sexpr) → is_symbol e ≡ true → named names (text_of e) ≡ term_at names e
   read_symbol e s = sym (go_out (Option Tree) (term_step names) e ∙ rw s refl)
 
-  read_else : (e : Sexpr) → is_symbol e ≡ false → term_at names e ≡ application names (map pair (items_of e))
+  read_else : (e : Sexpr) → is_symbol e ≡ false → term_at names e ≡ list_term names (map pair (items_of e))
   read_else e s = go_out (Option Tree) (term_step names) e ∙ rw s refl
 
-  none_there : (xs : List Sexpr) → length xs ≡ 0 → application names (map pair xs) ≡ None
+  none_there : (xs : List Sexpr) → length xs ≡ 0 → list_term names (map pair xs) ≡ None
   none_there [] n = refl
   none_there (x ∷ xs) n = absurd (omega (arith, n))
 
   pub read_empty : (e : Sexpr) → is_symbol e ≡ false → length (items_of e) ≡ 0 → term_at names e ≡ None
   read_empty e s n = read_else e s ∙ none_there (items_of e) n
 
-  by_head : (xs : List Sexpr) (a : Sexpr) → slice_get xs 0 ≡ Some a → application names (map pair xs) ≡ applied_to names (operator_at a) (map pair (drop 1 xs))
+  by_head : (xs : List Sexpr) (a : Sexpr) → slice_get xs 0 ≡ Some a → list_term names (map pair xs) ≡ applied_to names (operator_at a) (map pair (drop 1 xs))
   by_head [] a is = absurd (none-some a is)
   by_head (x ∷ xs) a is = ap (λ y. applied_to names (operator_at y) (map pair xs)) (same_Some x a is)
 

@@ -6,8 +6,7 @@ use Rattle.rare_check.specs.declared.report.Report.{Report}
 use Rattle.rare_check.specs.ProblemText.{StatedProblem, StatedRewrite}
 use Rattle.rare_check.specs.ProofText.{ProofCommand, proof_of}
 use Rattle.rare_check.specs.Verdicts.{concludes, verdict_by, verdicts_from, report_of, report_by, first_bad, checked, on_proof}
-use Rattle.rare_check.specs.Progress.{Progress}
-use Rattle.rare_check.specs.Checking.{start, answer, verdicts_with, report_with}
+use Rattle.rare_check.specs.Checking.{Progress, start, answer, verdicts_with, report_with}
 
 verdicts_start : (rewrites : List StatedRewrite) (commands : List ProofCommand) (k : ℕ) (rs : List StatedRewrite) →
     verdicts_with rewrites [] commands k rs ≡ verdicts_from rewrites commands k rs

@@ -1,21 +1,16 @@
 -- A proof that is checked as it comes: what a checker holds, and the answer it gives with the bytes that follow.
-use Rattle.std.specs.Prelude.{◌≡◌, ℕ, suc, ◌||◌, nat_eq, List, [], ◌∷◌, slice_get, Option, Some, None, Result, Err}
+use Rattle.std.specs.Prelude.{◌≡◌, ℕ, suc, ◌||◌, nat_eq, List, [], ◌∷◌, Option, Some, None, Result, Err}
 use Rattle.std.specs.List.{list_any}
 use Rattle.rare_base.specs.declared.answers.Fault.{Fault}
 use Rattle.rare_base.specs.declared.answers.Fault.TheVariants as fault
 use Rattle.rare_base.specs.Answers.{Refusal}
 use Rattle.rare_sexpr.specs.Commands.{Commands}
 use Rattle.rare_sexpr.specs.Streams.{Stream, new_stream, commands_left}
-use Rattle.rare_term.specs.TrueRewrite.{IsTrueRewrite}
 use Rattle.rare_check.specs.declared.report.Report.{Report}
-use Rattle.rare_check.specs.declared.report.Report.TheVariants.{Checked, Invalid}
 use Rattle.rare_check.specs.declared.report.Verdict.{Verdict}
-use Rattle.rare_check.specs.declared.report.Verdict.TheVariants.{Valid}
-use Rattle.rare_check.specs.TermText.{constants}
 use Rattle.rare_check.specs.ProblemText.{StatedProblem, StatedRewrite}
 use Rattle.rare_check.specs.ProofText.{ProofCommand, proof_from}
 use Rattle.rare_check.specs.Steps.{Equation}
-use Rattle.rare_check.specs.Progress.{Progress}
 use Rattle.rare_check.specs.Verdicts.{Bad, first_bad, concludes, verdict_by, report_by, on_proof}
 
 pub record Checking : Type 0 where
@@ -33,6 +28,12 @@ pub record Checking : Type 0 where
 
 abbrev pub start : StatedProblem → Checking
 start problem = record { problem = problem; earlier = []; concluded = []; bad = None; left = new_stream; stopped = None }
+
+-- the equations that are concluded, the places of the rewrites that are, and the first command that is not valid
+pub record Progress : Type 0 where
+  pub earlier : List Equation
+  pub concluded : List ℕ
+  pub bad : Option Bad
 
 -- the verdicts from place k on, where the rewrites at some places are concluded already
 abbrev pub verdicts_with : List StatedRewrite → List ℕ → List ProofCommand → ℕ → List StatedRewrite → List Verdict
@@ -66,9 +67,3 @@ answer c rest =
 abbrev pub Refuses : Fault → Result Report Refusal → Type 0
 Refuses fault.Memory answer = Unit {0}
 Refuses (fault.Refused place reason) answer = answer ≡ Err (record { place = place; reason = reason })
-
--- each rewrite with the verdict valid is true
-abbrev pub ValidAreTrue : StatedProblem → Report → Type 0
-ValidAreTrue problem (Checked verdicts trusted) =
-    (k : ℕ) (r : StatedRewrite) → slice_get problem.rewrites k ≡ Some r → slice_get verdicts k ≡ Some Valid → IsTrueRewrite (constants problem.names) r.left r.right
-ValidAreTrue problem (Invalid name fault) = Unit {0}

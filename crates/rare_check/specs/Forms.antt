@@ -5,20 +5,17 @@ use Rattle.rare_sexpr.specs.declared.tree.Kind.TheVariants as kind
 use Rattle.rare_sexpr.specs.declared.tree.Sexpr.{Sexpr}
 use Rattle.rare_sexpr.specs.Tree.{kind_of, text_of, items_of}
 
-abbrev pub is_symbol_kind : Kind → Bool
+unfoldable pub is_symbol_kind : Kind → Bool
 is_symbol_kind kind.Symbol = true
-is_symbol_kind kind.Keyword = false
-is_symbol_kind kind.List = false
+is_symbol_kind k = false
 
-abbrev pub is_keyword_kind : Kind → Bool
+unfoldable pub is_keyword_kind : Kind → Bool
 is_keyword_kind kind.Keyword = true
-is_keyword_kind kind.Symbol = false
-is_keyword_kind kind.List = false
+is_keyword_kind k = false
 
-abbrev pub is_list_kind : Kind → Bool
+unfoldable pub is_list_kind : Kind → Bool
 is_list_kind kind.List = true
-is_list_kind kind.Symbol = false
-is_list_kind kind.Keyword = false
+is_list_kind k = false
 
 abbrev pub is_symbol : Sexpr → Bool
 is_symbol e = is_symbol_kind (kind_of e)

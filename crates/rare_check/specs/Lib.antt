@@ -6,11 +6,6 @@ pub mod ProofText
 pub mod Steps
 pub mod Words
 pub mod Verdicts
-pub mod Answered
 pub mod Stated
-pub mod Progress
-pub mod Truth
 pub mod Checking
-pub mod Judging
-pub mod CommandsRead
-pub mod Kept
+pub mod inner

@@ -3,8 +3,8 @@ use Rattle.std.specs.Prelude.{ℕ, Bool, ◌&&◌, not, List, [], ◌∷◌, ◌
 use Rattle.rare_base.specs.Answers.{Refusal, unread_at}
 use Rattle.rare_sexpr.specs.declared.tree.Sexpr.{Sexpr}
 use Rattle.rare_sexpr.specs.Tree.{items_of, place_of, text_of}
-use Rattle.rare_sexpr.specs.Commands.{commands_of}
-use Rattle.rare_term.specs.declared.tree.Tree.{Tree}
+use Rattle.rare_sexpr.specs.Readings.{commands_of}
+use Rattle.rare_sort.specs.declared.tree.Tree.{Tree}
 use Rattle.rare_check.specs.Names.{may_declare, is_among}
 use Rattle.rare_check.specs.Forms.{is_symbol, is_word_at}
 use Rattle.rare_check.specs.TermText.{term_at}

@@ -3,8 +3,8 @@ use Rattle.std.specs.Prelude.{ℕ, ◌&&◌, List, [], ◌∷◌, codes, bytes_e
 use Rattle.rare_base.specs.Answers.{Refusal, unread_at}
 use Rattle.rare_sexpr.specs.declared.tree.Sexpr.{Sexpr}
 use Rattle.rare_sexpr.specs.Tree.{items_of, place_of, text_of, kind_of}
-use Rattle.rare_sexpr.specs.Commands.{commands_of}
-use Rattle.rare_term.specs.declared.tree.Tree.{Tree}
+use Rattle.rare_sexpr.specs.Readings.{commands_of}
+use Rattle.rare_sort.specs.declared.tree.Tree.{Tree}
 use Rattle.rare_check.specs.declared.steps.StepRule.{StepRule}
 use Rattle.rare_check.specs.declared.steps.StepRule.TheVariants.{Refl, Cong, Trans}
 use Rattle.rare_check.specs.Forms.{is_symbol, is_symbol_kind, is_list_kind, is_word_at, is_keyword_at, symbols_at, and_then}

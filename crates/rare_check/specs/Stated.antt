@@ -1,15 +1,13 @@
 -- The problem that a `Problem` holds, by the trees of its terms.
-use Rattle.std.specs.Prelude.{◌≡◌, ℕ, ◌<◌, List, length, map, All, Option, Some, Result, Ok, Err}
+use Rattle.std.specs.Prelude.{◌≡◌, ℕ, ◌<◌, List, length, map, All, Result, Ok, Err}
 use Rattle.rare_base.specs.declared.answers.Fault.{Fault}
 use Rattle.rare_base.specs.declared.answers.Fault.TheVariants as fault
 use Rattle.rare_base.specs.Answers.{Refusal}
-use Rattle.rare_term.specs.declared.tree.Tree.{Tree}
-use Rattle.rare_term.specs.Trees.{tree_at}
+use Rattle.rare_sort.specs.declared.tree.Tree.{Tree}
+use Rattle.rare_sort.specs.Ids.{tree_at}
 use Rattle.rare_check.specs.declared.problem.Rewrite.{Rewrite}
 use Rattle.rare_check.specs.declared.problem.Problem.{Problem}
-use Rattle.rare_check.specs.declared.stop.Stop.{Stop}
 use Rattle.rare_check.specs.ProblemText.{StatedProblem, StatedRewrite}
-use Rattle.rare_check.specs.Answered.{Stops}
 
 abbrev pub stated_rewrite : List Tree → Rewrite → StatedRewrite
 stated_rewrite ts r = record { name = r.name; left = tree_at ts r.left.0; right = tree_at ts r.right.0 }
@@ -26,8 +24,3 @@ abbrev pub IsProblemRead : List Tree → Result Problem Fault → Result StatedP
 IsProblemRead ts (Ok p) read = HaveIds (length ts) p.rewrites × (read ≡ Ok (stated ts p))
 IsProblemRead ts (Err (fault.Refused place reason)) read = read ≡ Err (record { place = place; reason = reason })
 IsProblemRead ts (Err fault.Memory) read = Unit {0}
-
--- what a command made is the problem that it states, if any; want of memory is free
-abbrev pub IsProblemMade : List Tree → Result Problem Stop → Option StatedProblem → Type 0
-IsProblemMade ts (Ok p) made = HaveIds (length ts) p.rewrites × (made ≡ Some (stated ts p))
-IsProblemMade ts (Err stop) made = Stops stop made

@@ -1,8 +1,8 @@
 -- When a command of a proof is valid after the steps before it, or else the first condition that fails.
 use Rattle.std.specs.Prelude.{ℕ, Bool, true, false, ◌&&◌, nat_eq, List, [], ◌∷◌, length, map, position, bytes_eq, slice_get, Option, Some, None, if◌then◌else◌}
-use Rattle.rare_term.specs.declared.tree.Tree.{Tree}
-use Rattle.rare_term.specs.Trees.{head_of, args_of}
-use Rattle.rare_term.specs.SameTrees.{head_eq, tree_eq}
+use Rattle.rare_sort.specs.declared.tree.Tree.{Tree}
+use Rattle.rare_sort.specs.Trees.{head_of, indices_of, args_of}
+use Rattle.rare_sort.specs.Sameness.{head_eq, linears_eq, tree_eq}
 use Rattle.rare_check.specs.declared.steps.StepRule.{StepRule}
 use Rattle.rare_check.specs.declared.steps.StepRule.TheVariants.{Refl, Cong, Trans}
 use Rattle.rare_check.specs.declared.steps.StepFault.{StepFault}
@@ -55,8 +55,9 @@ differing (a ∷ ss) (b ∷ ts) = if tree_eq a b then differing ss ts else ((a, 
 differing [] ts = []
 differing (a ∷ ss) [] = []
 
+-- one operator with the same indices, and as many arguments
 abbrev pub have_same_head : Tree → Tree → Bool
-have_same_head a b = head_eq (head_of a) (head_of b) && nat_eq (length (args_of a)) (length (args_of b))
+have_same_head a b = head_eq (head_of a) (head_of b) && (linears_eq (indices_of a) (indices_of b) && nat_eq (length (args_of a)) (length (args_of b)))
 
 -- the premises are a = b and b = c, and the step is a = c
 abbrev pub are_joined : List (Tree × Tree) → Tree → Tree → Bool

@@ -2,14 +2,16 @@
 use Rattle.std.specs.Prelude.{ℕ, List, [], ◌∷◌, map, position, codes, bytes_eq, Option, Some, None, if◌then◌else◌}
 use Rattle.rare_sexpr.specs.declared.tree.Sexpr.{Sexpr}
 use Rattle.rare_sexpr.specs.Tree.{Step, go_down, kind_of, text_of}
-use Rattle.rare_term.specs.declared.tree.Head.{Head}
-use Rattle.rare_term.specs.declared.tree.Head.TheVariants.{True, False, Not, And, Or, Equal, Free}
-use Rattle.rare_term.specs.declared.tree.Signature.{Signature}
-use Rattle.rare_term.specs.declared.tree.Sort.TheVariants as sort
-use Rattle.rare_term.specs.declared.tree.Tree.{Tree}
+use Rattle.rare_sort.specs.declared.head.Head.{Head}
+use Rattle.rare_sort.specs.declared.head.Head.TheVariants.{True, False, Not, And, Or, Equal, Free}
+use Rattle.rare_sort.specs.declared.sort.Signature.{Signature}
+use Rattle.rare_sort.specs.declared.sort.Sort.TheVariants as sort
+use Rattle.rare_sort.specs.declared.tree.Tree.{Tree}
 use Rattle.rare_term.specs.declared.terms.TermError.{TermError}
-use Rattle.rare_term.specs.Trees.{made}
-use Rattle.rare_term.specs.Limits.{refusal}
+use Rattle.rare_sort.specs.DeclaredSorts.{nothing_declared}
+use Rattle.rare_sort.specs.declared.declarations.Declarations.{Declarations}
+use Rattle.rare_term.specs.Literals.{application}
+use Rattle.rare_term.specs.Refusals.{refusal}
 use Rattle.rare_check.specs.Forms.{is_symbol_kind, and_then}
 
 -- the signatures of constants of sort Bool with these names
@@ -20,12 +22,16 @@ abbrev pub unless : Option TermError → Tree → Option Tree
 unless None t = Some t
 unless (Some e) t = None
 
--- the term with this head and these arguments, unless it is refused
-abbrev pub made_from : List Signature → Head → List Tree → Option Tree
-made_from symbols h ts = unless (refusal symbols h ts) (made h ts)
+-- the declarations of constants of sort Bool with these names
+abbrev pub declared_by : List (List ℕ) → Declarations
+declared_by names = record nothing_declared { symbols = constants names }
+
+-- the term with this operator and these arguments, unless it is refused
+abbrev pub made_from : Declarations → Head → List Tree → Option Tree
+made_from d h ts = unless (refusal d h [] ts) (application h [] ts)
 
 abbrev pub made_or : List (List ℕ) → Head → List Tree → Option Tree
-made_or names = made_from (constants names)
+made_or names = made_from (declared_by names)
 
 abbrev pub operator_of : List ℕ → Option Head
 operator_of word =
@@ -59,12 +65,12 @@ abbrev pub applied_to : List (List ℕ) → Option Head → List (Sexpr × Optio
 applied_to names None args = None
 applied_to names (Some h) args = and_then (all_of args) (λ ts. made_or names h ts)
 
-abbrev pub application : List (List ℕ) → List (Sexpr × Option Tree) → Option Tree
-application names [] = None
-application names (head ∷ args) = applied_to names (operator_at head.0) args
+abbrev pub list_term : List (List ℕ) → List (Sexpr × Option Tree) → Option Tree
+list_term names [] = None
+list_term names (head ∷ args) = applied_to names (operator_at head.0) args
 
 abbrev pub term_step : List (List ℕ) → Step (Option Tree)
-term_step names place kind text items = if is_symbol_kind kind then named names text else application names items
+term_step names place kind text items = if is_symbol_kind kind then named names text else list_term names items
 
 -- the term that an expression spells, over the declared names, or none
 abbrev pub term_at : List (List ℕ) → Sexpr → Option Tree

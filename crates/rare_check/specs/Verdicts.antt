@@ -1,12 +1,15 @@
 -- The verdict on a proof: its first command that is not valid, or which rewrites it concludes.
-use Rattle.std.specs.Prelude.{ℕ, suc, Bool, false, nat_eq, List, [], ◌∷◌, ◌++◌, Option, Some, None, Result, Ok, Err, if◌then◌else◌}
+use Rattle.std.specs.Prelude.{◌≡◌, ℕ, suc, Bool, false, nat_eq, List, [], ◌∷◌, ◌++◌, slice_get, Option, Some, None, Result, Ok, Err, if◌then◌else◌}
 use Rattle.std.specs.List.{list_any}
 use Rattle.rare_base.specs.Answers.{Refusal}
+use Rattle.rare_meaning.specs.TrueRewrite.{IsTrueRewrite}
 use Rattle.rare_check.specs.declared.steps.StepFault.{StepFault}
 use Rattle.rare_check.specs.declared.report.Report.{Report}
 use Rattle.rare_check.specs.declared.report.Report.TheVariants.{Checked, Invalid}
 use Rattle.rare_check.specs.declared.report.Verdict.{Verdict}
 use Rattle.rare_check.specs.declared.report.Verdict.TheVariants.{Valid, Missing}
+use Rattle.rare_meaning.specs.Interpretations.{AnyFunctions}
+use Rattle.rare_check.specs.TermText.{declared_by}
 use Rattle.rare_check.specs.ProblemText.{StatedProblem, StatedRewrite}
 use Rattle.rare_check.specs.ProofText.{ProofCommand, Step, Conclude, proof_of}
 use Rattle.rare_check.specs.Steps.{Equation, step_fault, conclusion_fault, rewrite_place}
@@ -71,3 +74,9 @@ on_proof f (Err fault) = Err fault
 -- the report on the proof that a text gives, or the text's first fault
 abbrev pub checked : StatedProblem → List ℕ → Result Report Refusal
 checked problem bytes = on_proof (report_of problem) (proof_of problem bytes)
+
+-- each rewrite with the verdict valid is true
+abbrev pub ValidAreTrue : StatedProblem → Report → Type 0
+ValidAreTrue problem (Checked verdicts trusted) =
+    (k : ℕ) (r : StatedRewrite) → slice_get problem.rewrites k ≡ Some r → slice_get verdicts k ≡ Some Valid → IsTrueRewrite AnyFunctions (declared_by problem.names) r.left r.right
+ValidAreTrue problem (Invalid name fault) = Unit {0}

@@ -1,8 +1,9 @@
+//! A checker of a proof that comes in pieces.
 ghost use Rattle.std.specs.Prelude.{◌≡◌, ◌+◌, ◌-◌, ◌^◌, ◌≤◌, ◌++◌, List, [], ℕ, length, Some, None, IfOk, IfErr, IfSome, OnOk, Ok, Err};
-ghost use Rattle.rare_check.specs.TermText.{constants};
+ghost use Rattle.rare_check.specs.TermText.{declared_by};
 ghost use Rattle.rare_check.specs.Stated.{stated, HaveIds};
-ghost use Rattle.rare_check.specs.Checking.{start, answer, Refuses, ValidAreTrue};
-ghost use Rattle.rare_check.specs.Verdicts.{checked};
+ghost use Rattle.rare_check.specs.Checking.{start, answer, Refuses};
+ghost use Rattle.rare_check.specs.Verdicts.{ValidAreTrue, checked};
 
 use crate::checking::take_commands;
 use crate::judged::Judged;
@@ -32,27 +33,27 @@ pub struct Checker<T: Terms> {
 
 impl<T: Terms> Model for Checker<T> {
     ghost use Rattle.rare_check.specs.Checking.{Checking};
-    ghost use Rattle.rare_check.specs.Kept.{checking_of, IsKept};
-    ghost use Rattle.rare_term.specs.contracts.tree.Tree as e;
+    ghost use Rattle.rare_check.specs.inner.Kept.{checking_of, IsKept};
+    ghost use Rattle.rare_sort.specs.contracts.tree.Tree as e;
     ghost use Rattle.std.specs.Coded.{codes};
 
     ghost Value = { Checking };
 
     ghost coded = { Prim.hlevel (codes, e.the_row.coded) };
 
-    ghost view = { λ c. checking_of (T.trees c.terms) c.problem c.judged c.reader c.stopped };
+    ghost view = { λ c. checking_of (T.state c.terms).trees c.problem c.judged c.reader c.stopped };
 
-    ghost invariant = { λ c. IsKept (T.trees c.terms) (T.symbols c.terms) c.problem c.judged c.reader };
+    ghost invariant = { λ c. IsKept (T.state c.terms).trees (T.state c.terms).declared c.problem c.judged c.reader };
 }
 
 impl<T: Terms + Drop> Checker<T> {
-    /// A checker that was fed nothing, for a problem that was read into these terms. It takes no memory.
+    /// A checker that was fed nothing, for a problem that was read into these terms.
     /// With the bytes of a whole proof it answers what the proof comes to.
     pub fn new(alloc: Global, terms: T, problem: Problem) -> Checker<T>
-        requires ids { HaveIds (length (T.trees terms)) problem.rewrites }
-        requires symbols { T.symbols terms ≡ constants problem.scope }
-        ensures held { result ≡ start (stated (T.trees terms) problem) }
-        ensures whole { (proof : List ℕ) → answer result proof ≡ checked (stated (T.trees terms) problem) proof }
+        requires ids { HaveIds (length (T.state terms).trees) problem.rewrites }
+        requires symbols { (T.state terms).declared ≡ declared_by problem.scope }
+        ensures held { result ≡ start (stated (T.state terms).trees problem) }
+        ensures whole { (proof : List ℕ) → answer result proof ≡ checked (stated (T.state terms).trees problem) proof }
     {
         Checker {
             alloc,

@@ -1,9 +1,10 @@
+//! Reading and judging the commands of a proof, one by one.
 ghost use Rattle.std.specs.Prelude.{◌≡◌, List, ℕ, [], true, OnOk, IfErr};
 ghost use Rattle.rare_sexpr.specs.Commands.{Commands, put_first, no_commands};
 ghost use Rattle.rare_sexpr.specs.Streams.{commands_left};
 ghost use Rattle.rare_check.specs.Checking.{answer_from, Refuses};
-ghost use Rattle.rare_check.specs.Kept.{IsHeld};
-ghost use Rattle.rare_check.specs.Progress.{progress_of};
+ghost use Rattle.rare_check.specs.inner.Kept.{IsHeld};
+ghost use Rattle.rare_check.specs.inner.Progress.{progress_of};
 ghost use Rattle.rare_check.specs.Stated.{stated};
 
 use crate::commands::read_command;
@@ -24,12 +25,12 @@ fn take_command<E: Expr, T: Terms>(
     problem: &Problem,
     judged: &mut Judged,
 ) -> Result<(), Fault>
-    requires { IsHeld (T.trees terms.old) (T.symbols terms.old) problem.now judged.old }
-    ensures ok { OnOk result ((rest : Commands) → answer_from (stated (T.trees terms.old) problem.now) (progress_of (T.trees terms.old) judged.old) (put_first (E.tree e.now) rest)
-        ≡ answer_from (stated (T.trees terms.new) problem.now) (progress_of (T.trees terms.new) judged.new) rest) }
-    ensures refused { IfErr result (λ fault. (rest : Commands) → Refuses fault (answer_from (stated (T.trees terms.old) problem.now) (progress_of (T.trees terms.old) judged.old) (put_first (E.tree e.now) rest))) }
-    ensures held { IsHeld (T.trees terms.new) (T.symbols terms.new) problem.now judged.new }
-    ensures problem { stated (T.trees terms.new) problem.now ≡ stated (T.trees terms.old) problem.now }
+    requires { IsHeld (T.state terms.old).trees (T.state terms.old).declared problem.now judged.old }
+    ensures ok { OnOk result ((rest : Commands) → answer_from (stated (T.state terms.old).trees problem.now) (progress_of (T.state terms.old).trees judged.old) (put_first (E.tree e.now) rest)
+        ≡ answer_from (stated (T.state terms.new).trees problem.now) (progress_of (T.state terms.new).trees judged.new) rest) }
+    ensures refused { IfErr result (λ fault. (rest : Commands) → Refuses fault (answer_from (stated (T.state terms.old).trees problem.now) (progress_of (T.state terms.old).trees judged.old) (put_first (E.tree e.now) rest))) }
+    ensures held { IsHeld (T.state terms.new).trees (T.state terms.new).declared problem.now judged.new }
+    ensures problem { stated (T.state terms.new).trees problem.now ≡ stated (T.state terms.old).trees problem.now }
 {
     let command = match read_command(alloc, e, &problem.scope, terms) {
         Ok(command) => command,
@@ -56,15 +57,15 @@ pub fn take_commands<T: Terms>(
     judged: &mut Judged,
     reader: &mut Reader,
 ) -> Result<(), Fault>
-    requires { IsHeld (T.trees terms.old) (T.symbols terms.old) problem.now judged.old }
+    requires { IsHeld (T.state terms.old).trees (T.state terms.old).declared problem.now judged.old }
     ensures ok { OnOk result ((more : List ℕ) → (reader.old.ended ≡ true → more ≡ []) →
-        answer_from (stated (T.trees terms.old) problem.now) (progress_of (T.trees terms.old) judged.old) (commands_left reader.old more)
-        ≡ answer_from (stated (T.trees terms.new) problem.now) (progress_of (T.trees terms.new) judged.new) (commands_left reader.new more)) }
+        answer_from (stated (T.state terms.old).trees problem.now) (progress_of (T.state terms.old).trees judged.old) (commands_left reader.old more)
+        ≡ answer_from (stated (T.state terms.new).trees problem.now) (progress_of (T.state terms.new).trees judged.new) (commands_left reader.new more)) }
     ensures finished { OnOk result (reader.old.ended ≡ true → commands_left reader.new [] ≡ no_commands) }
     ensures refused { IfErr result (λ fault. (more : List ℕ) → (reader.old.ended ≡ true → more ≡ []) →
-        Refuses fault (answer_from (stated (T.trees terms.old) problem.now) (progress_of (T.trees terms.old) judged.old) (commands_left reader.old more))) }
-    ensures held { IsHeld (T.trees terms.new) (T.symbols terms.new) problem.now judged.new }
-    ensures problem { stated (T.trees terms.new) problem.now ≡ stated (T.trees terms.old) problem.now }
+        Refuses fault (answer_from (stated (T.state terms.old).trees problem.now) (progress_of (T.state terms.old).trees judged.old) (commands_left reader.old more))) }
+    ensures held { IsHeld (T.state terms.new).trees (T.state terms.new).declared problem.now judged.new }
+    ensures problem { stated (T.state terms.new).trees problem.now ≡ stated (T.state terms.old).trees problem.now }
     ensures fed { reader.new.fed ≡ reader.old.fed }
     ensures ended { reader.new.ended ≡ reader.old.ended }
 {

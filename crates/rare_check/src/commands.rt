@@ -1,12 +1,13 @@
+//! The commands of a proof, read from expressions.
 ghost use Rattle.std.specs.Prelude.{◌≡◌, ◌≤◌, List, [], Some, None, length, if◌then◌else◌};
 ghost use Rattle.std.specs.List.{list_all};
 ghost use Rattle.rare_sexpr.specs.Tree.{items_of};
-ghost use Rattle.rare_term.specs.Trees.{Extends};
-ghost use Rattle.rare_term.specs.declared.tree.Tree.{Tree};
+ghost use Rattle.rare_sort.specs.Ids.{Extends};
+ghost use Rattle.rare_sort.specs.declared.tree.Tree.{Tree};
 ghost use Rattle.rare_check.specs.Forms.{is_symbol, texts_in};
-ghost use Rattle.rare_check.specs.TermText.{constants};
+ghost use Rattle.rare_check.specs.TermText.{declared_by};
 ghost use Rattle.rare_check.specs.ProofText.{rule_at, premises_at, sides_of_equation, sides_of_clause, proof_command};
-ghost use Rattle.rare_check.specs.CommandsRead.{AreSidesRead, ArePartsRead, parts_of, premise_ids, step_behind, IsCommandRead};
+ghost use Rattle.rare_check.specs.inner.CommandsRead.{AreSidesRead, ArePartsRead, parts_of, premise_ids, step_behind, IsCommandRead};
 
 use crate::judged::Sides;
 use crate::scope::Scope;
@@ -64,7 +65,7 @@ fn are_symbols<E: Expr>(e: &E) -> bool
 }
 
 // Whether these are the keyword and the list of the premises of a step.
-#[tactic(auto, using(crate::proofs::CommandForms::symbols_all))]
+#[tactic(auto, using(crate::proofs::CommandForms::symbols_all), unfolding(crate::specs::Forms::is_list_kind))]
 fn are_premises<E: Expr>(keyword: &E, ids: &E) -> bool
     ensures { premises_at (E.tree keyword.now) (E.tree ids.now) ≡ (if result then Some (texts_in (E.tree ids.now)) else None) }
 {
@@ -78,10 +79,10 @@ fn read_equation<E: Expr, T: Terms>(
     scope: &Scope,
     terms: &mut T,
 ) -> Result<Sides, Stop>
-    requires { T.symbols terms.old ≡ constants scope.now }
-    ensures read { AreSidesRead (T.trees terms.new) result (sides_of_equation scope.now (items_of (E.tree e.now))) }
-    ensures grows { Extends (T.trees terms.old) (T.trees terms.new) }
-    ensures symbols { T.symbols terms.new ≡ T.symbols terms.old }
+    requires { (T.state terms.old).declared ≡ declared_by scope.now }
+    ensures read { AreSidesRead (T.state terms.new).trees result (sides_of_equation scope.now (items_of (E.tree e.now))) }
+    ensures grows { Extends (T.state terms.old).trees (T.state terms.new).trees }
+    ensures symbols { (T.state terms.new).declared ≡ (T.state terms.old).declared }
 {
     if e.len() != 3 || !is_word_expression(e.item(0), "=") {
         return Err(Stop::Unread);
@@ -98,10 +99,10 @@ fn read_clause<E: Expr, T: Terms>(
     scope: &Scope,
     terms: &mut T,
 ) -> Result<Sides, Stop>
-    requires { T.symbols terms.old ≡ constants scope.now }
-    ensures read { AreSidesRead (T.trees terms.new) result (sides_of_clause scope.now (items_of (E.tree e.now))) }
-    ensures grows { Extends (T.trees terms.old) (T.trees terms.new) }
-    ensures symbols { T.symbols terms.new ≡ T.symbols terms.old }
+    requires { (T.state terms.old).declared ≡ declared_by scope.now }
+    ensures read { AreSidesRead (T.state terms.new).trees result (sides_of_clause scope.now (items_of (E.tree e.now))) }
+    ensures grows { Extends (T.state terms.old).trees (T.state terms.new).trees }
+    ensures symbols { (T.state terms.new).declared ≡ (T.state terms.old).declared }
 {
     if e.len() != 2 || !is_word_expression(e.item(0), "cl") {
         return Err(Stop::Unread);
@@ -116,11 +117,11 @@ fn read_step_parts<E: Expr, T: Terms>(
     scope: &Scope,
     terms: &mut T,
 ) -> Result<(Sides, StepRule), Stop>
-    requires symbols { T.symbols terms.old ≡ constants scope.now }
+    requires symbols { (T.state terms.old).declared ≡ declared_by scope.now }
     requires five { 5 ≤ length (items_of (E.tree e.now)) }
-    ensures read { ArePartsRead (T.trees terms.new) result (parts_of scope.now (items_of (E.tree e.now))) }
-    ensures grows { Extends (T.trees terms.old) (T.trees terms.new) }
-    ensures symbols { T.symbols terms.new ≡ T.symbols terms.old }
+    ensures read { ArePartsRead (T.state terms.new).trees result (parts_of scope.now (items_of (E.tree e.now))) }
+    ensures grows { Extends (T.state terms.old).trees (T.state terms.new).trees }
+    ensures symbols { (T.state terms.new).declared ≡ (T.state terms.old).declared }
 {
     if !is_word_expression(e.item(0), "step") || !is_symbol_expression(e.item(1)) {
         return Err(Stop::Unread);
@@ -142,11 +143,11 @@ fn read_step<'e, E: Expr, T: Terms>(
     terms: &mut T,
     premises: Option<&'e E>,
 ) -> Result<ReadCommand<'e, E>, Stop>
-    requires symbols { T.symbols terms.old ≡ constants scope.now }
+    requires symbols { (T.state terms.old).declared ≡ declared_by scope.now }
     requires five { 5 ≤ length (items_of (E.tree e.now)) }
-    ensures read { IsCommandRead E.tree (T.trees terms.new) result (step_behind scope.now (items_of (E.tree e.now)) (Some (premise_ids E.tree premises.entry))) }
-    ensures grows { Extends (T.trees terms.old) (T.trees terms.new) }
-    ensures symbols { T.symbols terms.new ≡ T.symbols terms.old }
+    ensures read { IsCommandRead E.tree (T.state terms.new).trees result (step_behind scope.now (items_of (E.tree e.now)) (Some (premise_ids E.tree premises.entry))) }
+    ensures grows { Extends (T.state terms.old).trees (T.state terms.new).trees }
+    ensures symbols { (T.state terms.new).declared ≡ (T.state terms.old).declared }
 {
     let (sides, rule) = read_step_parts(alloc, e, scope, terms)?;
     Ok(ReadCommand::Step(ReadStep {
@@ -182,10 +183,10 @@ pub fn read_command<'e, E: Expr, T: Terms>(
     scope: &Scope,
     terms: &mut T,
 ) -> Result<ReadCommand<'e, E>, Stop>
-    requires { T.symbols terms.old ≡ constants scope.now }
-    ensures read { IsCommandRead E.tree (T.trees terms.new) result (proof_command scope.now (items_of (E.tree e.now))) }
-    ensures grows { Extends (T.trees terms.old) (T.trees terms.new) }
-    ensures symbols { T.symbols terms.new ≡ T.symbols terms.old }
+    requires { (T.state terms.old).declared ≡ declared_by scope.now }
+    ensures read { IsCommandRead E.tree (T.state terms.new).trees result (proof_command scope.now (items_of (E.tree e.now))) }
+    ensures grows { Extends (T.state terms.old).trees (T.state terms.new).trees }
+    ensures symbols { (T.state terms.new).declared ≡ (T.state terms.old).declared }
 {
     match e.len() {
         3 => read_conclusion(e),

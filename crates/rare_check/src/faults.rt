@@ -1,41 +1,47 @@
+//! The conditions of a step and of a conclusion, and the first that fails.
 ghost use Rattle.std.specs.Prelude.{◌≡◌, ◌<◌, ◌++◌, ◌∷◌, [], List, ℕ, length, map, All, IfOk, IfSome, IfNone, OnOk, IsTrue, ◌↔◌, Some, None};
 ghost use Rattle.std.specs.Option.{option_map};
-ghost use Rattle.rare_term.specs.declared.tree.Tree.{Tree};
-ghost use Rattle.rare_term.specs.Trees.{tree_at, args_of, head_of};
-ghost use Rattle.rare_term.specs.SameTrees.{tree_eq, head_eq};
-ghost use Rattle.rare_check.specs.CommandsRead.{SidesAreIds, pair_at, premise_ids, stated_step};
-ghost use Rattle.rare_check.specs.Judging.{IsJudged, earlier_of, AreAllIds, pairs_at, unless_same};
+ghost use Rattle.rare_sort.specs.declared.tree.Tree.{Tree};
+ghost use Rattle.rare_sort.specs.Ids.{tree_at};
+ghost use Rattle.rare_sort.specs.Trees.{args_of, head_of, indices_of};
+ghost use Rattle.rare_sort.specs.Sameness.{tree_eq, head_eq, linear_eq, linears_eq};
+ghost use Rattle.rare_check.specs.inner.CommandsRead.{SidesAreIds, pair_at, premise_ids, stated_step};
+ghost use Rattle.rare_check.specs.inner.Judging.{IsJudged, earlier_of, AreAllIds, pairs_at, unless_same};
 ghost use Rattle.rare_check.specs.Steps.{sides_named, premises_of, differing, have_same_head, pair_eq, pairs_eq, are_joined, conditions, first_failing, step_fault, equation_fault};
 
 use crate::commands::ReadStep;
 use crate::judged::{Judged, Sides, SidesList};
 use crate::steps::{StepFault, StepRule};
+use rare_linear::Linear;
 use rare_sexpr::Expr;
-use rare_term::{Head, TermId, Terms};
+use rare_term::{Head, TermId, Terms, is_same_head};
 use std::alloc::{AllocError, Global};
 
-#[tactic(auto, using(crate::proofs::Judgements::heads_same))]
 fn same_head(a: Head, b: Head) -> bool
     ensures { result ≡ head_eq a b }
 {
-    a == b
+    is_same_head(a, b)
 }
 
-// Whether two ids are of one term. `head` is called for its contract, by which different ids have
-// different trees.
-fn same_term<T: Terms>(terms: &T, a: TermId, b: TermId) -> bool
-    requires a { a.0 < length (T.trees terms.now) }
-    requires b { b.0 < length (T.trees terms.now) }
-    ensures { result ≡ tree_eq (tree_at (T.trees terms.now) a.0) (tree_at (T.trees terms.now) b.0) }
+fn same_index(a: &Linear, b: &Linear) -> bool
+    ensures { result ≡ linear_eq a.now b.now }
 {
-    let _head = terms.head(a);
+    a.is_same(b)
+}
+
+// Whether two ids are of one term: equal trees have equal ids.
+fn same_term<T: Terms>(terms: &T, a: TermId, b: TermId) -> bool
+    requires a { a.0 < length (T.state terms.now).trees }
+    requires b { b.0 < length (T.state terms.now).trees }
+    ensures { result ≡ tree_eq (tree_at (T.state terms.now).trees a.0) (tree_at (T.state terms.now).trees b.0) }
+{
     a.0 == b.0
 }
 
 fn same_sides<T: Terms>(terms: &T, a: Sides, b: Sides) -> bool
-    requires a { SidesAreIds (length (T.trees terms.now)) a }
-    requires b { SidesAreIds (length (T.trees terms.now)) b }
-    ensures { result ≡ pair_eq (pair_at (T.trees terms.now) a) (pair_at (T.trees terms.now) b) }
+    requires a { SidesAreIds (length (T.state terms.now).trees) a }
+    requires b { SidesAreIds (length (T.state terms.now).trees) b }
+    ensures { result ≡ pair_eq (pair_at (T.state terms.now).trees a) (pair_at (T.state terms.now).trees b) }
 {
     same_term(terms, a.left, b.left) && same_term(terms, a.right, b.right)
 }
@@ -75,10 +81,10 @@ fn sides_of_premises<E: Expr>(
 
 // Appends a pair, unless both its terms are one.
 fn push_differing<T: Terms>(terms: &T, pairs: &mut SidesList, pair: Sides) -> Result<(), AllocError>
-    requires ids { AreAllIds (length (T.trees terms.now)) pairs.old }
-    requires pair { SidesAreIds (length (T.trees terms.now)) pair }
-    ensures pairs { OnOk result (pairs_at (T.trees terms.now) pairs.new ≡ pairs_at (T.trees terms.now) pairs.old ++ unless_same (pair_at (T.trees terms.now) pair)) }
-    ensures ids { OnOk result (AreAllIds (length (T.trees terms.now)) pairs.new) }
+    requires ids { AreAllIds (length (T.state terms.now).trees) pairs.old }
+    requires pair { SidesAreIds (length (T.state terms.now).trees) pair }
+    ensures pairs { OnOk result (pairs_at (T.state terms.now).trees pairs.new ≡ pairs_at (T.state terms.now).trees pairs.old ++ unless_same (pair_at (T.state terms.now).trees pair)) }
+    ensures ids { OnOk result (AreAllIds (length (T.state terms.now).trees) pairs.new) }
 {
     if same_term(terms, pair.left, pair.right) {
         return Ok(());
@@ -88,10 +94,10 @@ fn push_differing<T: Terms>(terms: &T, pairs: &mut SidesList, pair: Sides) -> Re
 
 // The pairs of arguments that differ, in order, of two terms with as many arguments.
 fn differing_args<T: Terms>(alloc: Global, terms: &T, sides: Sides) -> Result<SidesList, AllocError>
-    requires ids { SidesAreIds (length (T.trees terms.now)) sides }
-    requires same { length (args_of (tree_at (T.trees terms.now) sides.left.0)) ≡ length (args_of (tree_at (T.trees terms.now) sides.right.0)) }
-    ensures pairs { IfOk result (λ pairs. pairs_at (T.trees terms.now) pairs ≡ differing (args_of (tree_at (T.trees terms.now) sides.left.0)) (args_of (tree_at (T.trees terms.now) sides.right.0))) }
-    ensures ids { IfOk result (λ pairs. AreAllIds (length (T.trees terms.now)) pairs) }
+    requires ids { SidesAreIds (length (T.state terms.now).trees) sides }
+    requires same { length (args_of (tree_at (T.state terms.now).trees sides.left.0)) ≡ length (args_of (tree_at (T.state terms.now).trees sides.right.0)) }
+    ensures pairs { IfOk result (λ pairs. pairs_at (T.state terms.now).trees pairs ≡ differing (args_of (tree_at (T.state terms.now).trees sides.left.0)) (args_of (tree_at (T.state terms.now).trees sides.right.0))) }
+    ensures ids { IfOk result (λ pairs. AreAllIds (length (T.state terms.now).trees) pairs) }
 {
     let mut pairs = SidesList::new(alloc);
     for k in 0..terms.arg_count(sides.left) {
@@ -104,9 +110,9 @@ fn differing_args<T: Terms>(alloc: Global, terms: &T, sides: Sides) -> Result<Si
 
 // Whether two lists are of the same pairs of terms.
 fn are_same_pairs<T: Terms>(terms: &T, a: &[Sides], b: &[Sides]) -> bool
-    requires a { AreAllIds (length (T.trees terms.now)) a.now }
-    requires b { AreAllIds (length (T.trees terms.now)) b.now }
-    ensures { result ≡ pairs_eq (pairs_at (T.trees terms.now) a.now) (pairs_at (T.trees terms.now) b.now) }
+    requires a { AreAllIds (length (T.state terms.now).trees) a.now }
+    requires b { AreAllIds (length (T.state terms.now).trees) b.now }
+    ensures { result ≡ pairs_eq (pairs_at (T.state terms.now).trees a.now) (pairs_at (T.state terms.now).trees b.now) }
 {
     if a.len() != b.len() {
         return false;
@@ -119,18 +125,36 @@ fn are_same_pairs<T: Terms>(terms: &T, a: &[Sides], b: &[Sides]) -> bool
     true
 }
 
-// Whether two terms have one operator and as many arguments.
+// Whether the operators of two terms have the same indices.
+fn have_same_indices<T: Terms>(terms: &T, sides: Sides) -> bool
+    requires { SidesAreIds (length (T.state terms.now).trees) sides }
+    ensures { result ≡ linears_eq (indices_of (tree_at (T.state terms.now).trees sides.left.0)) (indices_of (tree_at (T.state terms.now).trees sides.right.0)) }
+{
+    let count = terms.index_count(sides.left);
+    if count != terms.index_count(sides.right) {
+        return false;
+    }
+    for k in 0..count {
+        if !same_index(terms.index(sides.left, k), terms.index(sides.right, k)) {
+            return false;
+        }
+    }
+    true
+}
+
+// Whether two terms have one operator with the same indices, and as many arguments.
 fn are_same_shape<T: Terms>(terms: &T, sides: Sides) -> bool
-    requires { SidesAreIds (length (T.trees terms.now)) sides }
-    ensures { result ≡ have_same_head (tree_at (T.trees terms.now) sides.left.0) (tree_at (T.trees terms.now) sides.right.0) }
+    requires { SidesAreIds (length (T.state terms.now).trees) sides }
+    ensures { result ≡ have_same_head (tree_at (T.state terms.now).trees sides.left.0) (tree_at (T.state terms.now).trees sides.right.0) }
 {
     same_head(terms.head(sides.left), terms.head(sides.right))
+        && have_same_indices(terms, sides)
         && terms.arg_count(sides.left) == terms.arg_count(sides.right)
 }
 
 fn refl_fault<T: Terms>(terms: &T, sides: Sides, premises: &[Sides]) -> Option<StepFault>
-    requires sides { SidesAreIds (length (T.trees terms.now)) sides }
-    ensures { result ≡ first_failing (conditions StepRule.Refl (tree_at (T.trees terms.now) sides.left.0) (tree_at (T.trees terms.now) sides.right.0) (pairs_at (T.trees terms.now) premises.now)) }
+    requires sides { SidesAreIds (length (T.state terms.now).trees) sides }
+    ensures { result ≡ first_failing (conditions StepRule.Refl (tree_at (T.state terms.now).trees sides.left.0) (tree_at (T.state terms.now).trees sides.right.0) (pairs_at (T.state terms.now).trees premises.now)) }
 {
     if !premises.is_empty() {
         return Some(StepFault::PremiseCount);
@@ -147,9 +171,9 @@ fn cong_fault<T: Terms>(
     sides: Sides,
     premises: &[Sides],
 ) -> Result<Option<StepFault>, AllocError>
-    requires sides { SidesAreIds (length (T.trees terms.now)) sides }
-    requires premises { AreAllIds (length (T.trees terms.now)) premises.now }
-    ensures { IfOk result (λ fault. fault ≡ first_failing (conditions StepRule.Cong (tree_at (T.trees terms.now) sides.left.0) (tree_at (T.trees terms.now) sides.right.0) (pairs_at (T.trees terms.now) premises.now))) }
+    requires sides { SidesAreIds (length (T.state terms.now).trees) sides }
+    requires premises { AreAllIds (length (T.state terms.now).trees) premises.now }
+    ensures { IfOk result (λ fault. fault ≡ first_failing (conditions StepRule.Cong (tree_at (T.state terms.now).trees sides.left.0) (tree_at (T.state terms.now).trees sides.right.0) (pairs_at (T.state terms.now).trees premises.now))) }
 {
     if !are_same_shape(terms, sides) {
         return Ok(Some(StepFault::OtherHead));
@@ -165,9 +189,9 @@ fn cong_fault<T: Terms>(
 }
 
 fn trans_fault<T: Terms>(terms: &T, sides: Sides, premises: &[Sides]) -> Option<StepFault>
-    requires sides { SidesAreIds (length (T.trees terms.now)) sides }
-    requires premises { AreAllIds (length (T.trees terms.now)) premises.now }
-    ensures { result ≡ first_failing (conditions StepRule.Trans (tree_at (T.trees terms.now) sides.left.0) (tree_at (T.trees terms.now) sides.right.0) (pairs_at (T.trees terms.now) premises.now)) }
+    requires sides { SidesAreIds (length (T.state terms.now).trees) sides }
+    requires premises { AreAllIds (length (T.state terms.now).trees) premises.now }
+    ensures { result ≡ first_failing (conditions StepRule.Trans (tree_at (T.state terms.now).trees sides.left.0) (tree_at (T.state terms.now).trees sides.right.0) (pairs_at (T.state terms.now).trees premises.now)) }
 {
     let [first, second] = premises else {
         return Some(StepFault::PremiseCount);
@@ -189,9 +213,9 @@ fn fault_by_rule<T: Terms>(
     sides: Sides,
     premises: &[Sides],
 ) -> Result<Option<StepFault>, AllocError>
-    requires sides { SidesAreIds (length (T.trees terms.now)) sides }
-    requires premises { AreAllIds (length (T.trees terms.now)) premises.now }
-    ensures { IfOk result (λ fault. fault ≡ first_failing (conditions rule (tree_at (T.trees terms.now) sides.left.0) (tree_at (T.trees terms.now) sides.right.0) (pairs_at (T.trees terms.now) premises.now))) }
+    requires sides { SidesAreIds (length (T.state terms.now).trees) sides }
+    requires premises { AreAllIds (length (T.state terms.now).trees) premises.now }
+    ensures { IfOk result (λ fault. fault ≡ first_failing (conditions rule (tree_at (T.state terms.now).trees sides.left.0) (tree_at (T.state terms.now).trees sides.right.0) (pairs_at (T.state terms.now).trees premises.now))) }
 {
     match rule {
         StepRule::Refl => Ok(refl_fault(terms, sides, premises)),
@@ -207,9 +231,9 @@ pub fn fault_of_step<E: Expr, T: Terms>(
     judged: &Judged,
     step: &ReadStep<'_, E>,
 ) -> Result<Option<StepFault>, AllocError>
-    requires judged { IsJudged (length (T.trees terms.now)) judged.now }
-    requires sides { SidesAreIds (length (T.trees terms.now)) step.now.sides }
-    ensures { IfOk result (λ fault. fault ≡ step_fault (earlier_of (T.trees terms.now) judged.now) (stated_step E.tree (T.trees terms.now) step.now)) }
+    requires judged { IsJudged (length (T.state terms.now).trees) judged.now }
+    requires sides { SidesAreIds (length (T.state terms.now).trees) step.now.sides }
+    ensures { IfOk result (λ fault. fault ≡ step_fault (earlier_of (T.state terms.now).trees judged.now) (stated_step E.tree (T.state terms.now).trees step.now)) }
 {
     if judged.ids.contains(step.id) {
         return Ok(Some(StepFault::IdUsed));
@@ -228,9 +252,9 @@ pub fn fault_of_conclusion<T: Terms>(
     rewrite: Sides,
     id: &[u8],
 ) -> Option<StepFault>
-    requires judged { IsJudged (length (T.trees terms.now)) judged.now }
-    requires rewrite { SidesAreIds (length (T.trees terms.now)) rewrite }
-    ensures { result ≡ equation_fault (Some (pair_at (T.trees terms.now) rewrite)) (sides_named (earlier_of (T.trees terms.now) judged.now) id.now) }
+    requires judged { IsJudged (length (T.state terms.now).trees) judged.now }
+    requires rewrite { SidesAreIds (length (T.state terms.now).trees) rewrite }
+    ensures { result ≡ equation_fault (Some (pair_at (T.state terms.now).trees rewrite)) (sides_named (earlier_of (T.state terms.now).trees judged.now) id.now) }
 {
     match sides_of_step(judged, id) {
         None => Some(StepFault::NoSuchStep),

@@ -1,3 +1,4 @@
+//! What the commands of a proof came to.
 ghost use Rattle.std.specs.Prelude.{◌≡◌, ◌∷◌, ◌++◌, [], Some, None, false, length, bytes_eq, OnOk, OnErr};
 ghost use Rattle.std.specs.List.{list_any};
 
@@ -37,7 +38,7 @@ pub struct Judged {
 }
 
 impl Judged {
-    /// No command yet. It takes no memory.
+    /// No command yet.
     pub fn new(alloc: Global) -> Judged
         ensures ids { result.ids ≡ [] }
         ensures sides { result.sides ≡ [] }

@@ -1,8 +1,9 @@
+//! Judging a command after those before it.
 ghost use Rattle.std.specs.Prelude.{◌≡◌, None, length, OnOk, OnErr};
-ghost use Rattle.rare_check.specs.CommandsRead.{CommandHasIds, SidesAreIds, command_at, stated_step};
-ghost use Rattle.rare_check.specs.Judging.{IsJudged};
+ghost use Rattle.rare_check.specs.inner.CommandsRead.{CommandHasIds, SidesAreIds, command_at, stated_step};
+ghost use Rattle.rare_check.specs.inner.Judging.{IsJudged};
 ghost use Rattle.rare_check.specs.ProofText.{Step, Conclude};
-ghost use Rattle.rare_check.specs.Progress.{progress, progress_of};
+ghost use Rattle.rare_check.specs.inner.Progress.{progress, progress_of};
 ghost use Rattle.rare_check.specs.Stated.{stated, HaveIds};
 
 use crate::commands::{ReadCommand, ReadStep};
@@ -22,12 +23,12 @@ fn judge_step<E: Expr, T: Terms>(
     judged: &mut Judged,
     step: &ReadStep<'_, E>,
 ) -> Result<(), AllocError>
-    requires judged { IsJudged (length (T.trees terms.now)) judged.old }
+    requires judged { IsJudged (length (T.state terms.now).trees) judged.old }
     requires good { judged.old.bad ≡ None }
-    requires sides { SidesAreIds (length (T.trees terms.now)) step.now.sides }
-    ensures ok { OnOk result (progress_of (T.trees terms.now) judged.new ≡ progress (stated (T.trees terms.now) problem.now) (progress_of (T.trees terms.now) judged.old) (Step (stated_step E.tree (T.trees terms.now) step.now))) }
-    ensures err { OnErr result (progress_of (T.trees terms.now) judged.new ≡ progress_of (T.trees terms.now) judged.old) }
-    ensures kept { IsJudged (length (T.trees terms.now)) judged.new }
+    requires sides { SidesAreIds (length (T.state terms.now).trees) step.now.sides }
+    ensures ok { OnOk result (progress_of (T.state terms.now).trees judged.new ≡ progress (stated (T.state terms.now).trees problem.now) (progress_of (T.state terms.now).trees judged.old) (Step (stated_step E.tree (T.state terms.now).trees step.now))) }
+    ensures err { OnErr result (progress_of (T.state terms.now).trees judged.new ≡ progress_of (T.state terms.now).trees judged.old) }
+    ensures kept { IsJudged (length (T.state terms.now).trees) judged.new }
 {
     match fault_of_step(alloc, terms, judged, step)? {
         Some(fault) => judged.set_bad(alloc, step.id, fault),
@@ -47,12 +48,12 @@ fn judge_conclusion<T: Terms>(
     name: &[u8],
     id: &[u8],
 ) -> Result<(), AllocError>
-    requires judged { IsJudged (length (T.trees terms.now)) judged.old }
+    requires judged { IsJudged (length (T.state terms.now).trees) judged.old }
     requires good { judged.old.bad ≡ None }
-    requires rewrites { HaveIds (length (T.trees terms.now)) problem.now.rewrites }
-    ensures ok { OnOk result (progress_of (T.trees terms.now) judged.new ≡ progress (stated (T.trees terms.now) problem.now) (progress_of (T.trees terms.now) judged.old) (Conclude name.now id.now)) }
-    ensures err { OnErr result (progress_of (T.trees terms.now) judged.new ≡ progress_of (T.trees terms.now) judged.old) }
-    ensures kept { IsJudged (length (T.trees terms.now)) judged.new }
+    requires rewrites { HaveIds (length (T.state terms.now).trees) problem.now.rewrites }
+    ensures ok { OnOk result (progress_of (T.state terms.now).trees judged.new ≡ progress (stated (T.state terms.now).trees problem.now) (progress_of (T.state terms.now).trees judged.old) (Conclude name.now id.now)) }
+    ensures err { OnErr result (progress_of (T.state terms.now).trees judged.new ≡ progress_of (T.state terms.now).trees judged.old) }
+    ensures kept { IsJudged (length (T.state terms.now).trees) judged.new }
 {
     let Some(k) = problem.find(name) else {
         return judged.set_bad(alloc, name, StepFault::NoSuchRewrite);
@@ -78,12 +79,12 @@ pub fn judge<E: Expr, T: Terms>(
     judged: &mut Judged,
     command: &ReadCommand<'_, E>,
 ) -> Result<(), AllocError>
-    requires judged { IsJudged (length (T.trees terms.now)) judged.old }
-    requires command { CommandHasIds (length (T.trees terms.now)) command.now }
-    requires rewrites { HaveIds (length (T.trees terms.now)) problem.now.rewrites }
-    ensures ok { OnOk result (progress_of (T.trees terms.now) judged.new ≡ progress (stated (T.trees terms.now) problem.now) (progress_of (T.trees terms.now) judged.old) (command_at E.tree (T.trees terms.now) command.now)) }
-    ensures err { OnErr result (progress_of (T.trees terms.now) judged.new ≡ progress_of (T.trees terms.now) judged.old) }
-    ensures kept { IsJudged (length (T.trees terms.now)) judged.new }
+    requires judged { IsJudged (length (T.state terms.now).trees) judged.old }
+    requires command { CommandHasIds (length (T.state terms.now).trees) command.now }
+    requires rewrites { HaveIds (length (T.state terms.now).trees) problem.now.rewrites }
+    ensures ok { OnOk result (progress_of (T.state terms.now).trees judged.new ≡ progress (stated (T.state terms.now).trees problem.now) (progress_of (T.state terms.now).trees judged.old) (command_at E.tree (T.state terms.now).trees command.now)) }
+    ensures err { OnErr result (progress_of (T.state terms.now).trees judged.new ≡ progress_of (T.state terms.now).trees judged.old) }
+    ensures kept { IsJudged (length (T.state terms.now).trees) judged.new }
 {
     if judged.bad.is_some() {
         return Ok(());

@@ -1,3 +1,4 @@
+//! Which names a text may not declare.
 ghost use Rattle.std.specs.Prelude.{◌≡◌, map, bytes_eq};
 ghost use Rattle.rare_check.specs.Names.{is_among, is_reserved, is_theory_word};
 

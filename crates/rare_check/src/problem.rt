@@ -1,3 +1,4 @@
+//! A problem: its names and its rewrites.
 ghost use Rattle.std.specs.Prelude.{◌≡◌, map, position};
 
 use crate::scope::Scope;
@@ -32,7 +33,7 @@ impl Problem {
     ghost use Rattle.std.specs.Prelude.{◌∷◌, ◌++◌, [], false, bytes_eq, IfOk};
     ghost use Rattle.std.specs.List.{list_any};
 
-    /// The problem without names and rewrites. It takes no memory.
+    /// The problem without names and rewrites.
     pub fn new(alloc: Global) -> Problem
         ensures rewrites { result.rewrites ≡ [] }
         ensures scope { result.scope ≡ [] }

@@ -1,9 +1,12 @@
+//! Reading the problem that a text states.
 ghost use Rattle.std.specs.Prelude.{◌≡◌, ℕ, ◌+◌, ◌-◌, ◌^◌, ◌<◌, ◌≤◌, [], length, map, IfOk};
 ghost use Rattle.rare_sexpr.specs.Tree.{items_of};
-ghost use Rattle.rare_term.specs.Trees.{Extends};
-ghost use Rattle.rare_check.specs.TermText.{constants};
+ghost use Rattle.rare_sort.specs.DeclaredSorts.{nothing_declared};
+ghost use Rattle.rare_sort.specs.Ids.{Extends};
+ghost use Rattle.rare_check.specs.TermText.{declared_by};
 ghost use Rattle.rare_check.specs.ProblemText.{problem_of, is_declaration, is_statement, with_command};
-ghost use Rattle.rare_check.specs.Stated.{HaveIds, IsProblemMade, IsProblemRead, stated};
+ghost use Rattle.rare_check.specs.Stated.{HaveIds, IsProblemRead, stated};
+ghost use Rattle.rare_check.specs.inner.Answered.{IsProblemMade};
 
 use crate::problem::{Problem, Rewrite};
 use crate::scope::Scope;
@@ -34,12 +37,12 @@ fn is_statement_of<E: Expr>(command: &E, name: &E, problem: &Problem) -> bool
 // The problem with the name that a declaration declares.
 fn declared<E: Expr, T: Terms>(e: &E, terms: &mut T, problem: Problem) -> Result<Problem, Stop>
     requires three { length (items_of (E.tree e.now)) ≡ 3 }
-    requires ids { HaveIds (length (T.trees terms.old)) problem.rewrites }
-    requires symbols { T.symbols terms.old ≡ constants problem.scope }
+    requires ids { HaveIds (length (T.state terms.old).trees) problem.rewrites }
+    requires symbols { (T.state terms.old).declared ≡ declared_by problem.scope }
     requires room { length problem.scope < 2 ^ 32 - 1 }
-    ensures made { IsProblemMade (T.trees terms.new) result (with_command (stated (T.trees terms.old) problem) (items_of (E.tree e.now))) }
-    ensures grows { Extends (T.trees terms.old) (T.trees terms.new) }
-    ensures symbols { IfOk result (λ p. T.symbols terms.new ≡ constants p.scope) }
+    ensures made { IsProblemMade (T.state terms.new).trees result (with_command (stated (T.state terms.old).trees problem) (items_of (E.tree e.now))) }
+    ensures grows { Extends (T.state terms.old).trees (T.state terms.new).trees }
+    ensures symbols { IfOk result (λ p. (T.state terms.new).declared ≡ declared_by p.scope) }
     ensures room { IfOk result (λ p. length p.scope ≤ length problem.scope + 1) }
 {
     let name = e.item(1);
@@ -60,11 +63,11 @@ fn with_statement<E: Expr, T: Terms>(
     problem: Problem,
 ) -> Result<Problem, Stop>
     requires four { length (items_of (E.tree e.now)) ≡ 4 }
-    requires ids { HaveIds (length (T.trees terms.old)) problem.rewrites }
-    requires symbols { T.symbols terms.old ≡ constants problem.scope }
-    ensures made { IsProblemMade (T.trees terms.new) result (with_command (stated (T.trees terms.old) problem) (items_of (E.tree e.now))) }
-    ensures grows { Extends (T.trees terms.old) (T.trees terms.new) }
-    ensures symbols { IfOk result (λ p. T.symbols terms.new ≡ constants p.scope) }
+    requires ids { HaveIds (length (T.state terms.old).trees) problem.rewrites }
+    requires symbols { (T.state terms.old).declared ≡ declared_by problem.scope }
+    ensures made { IsProblemMade (T.state terms.new).trees result (with_command (stated (T.state terms.old).trees problem) (items_of (E.tree e.now))) }
+    ensures grows { Extends (T.state terms.old).trees (T.state terms.new).trees }
+    ensures symbols { IfOk result (λ p. (T.state terms.new).declared ≡ declared_by p.scope) }
     ensures room { IfOk result (λ p. length p.scope ≤ length problem.scope + 1) }
 {
     let name = e.item(1);
@@ -84,12 +87,12 @@ fn with_command_of<E: Expr, T: Terms>(
     terms: &mut T,
     problem: Problem,
 ) -> Result<Problem, Stop>
-    requires ids { HaveIds (length (T.trees terms.old)) problem.rewrites }
-    requires symbols { T.symbols terms.old ≡ constants problem.scope }
+    requires ids { HaveIds (length (T.state terms.old).trees) problem.rewrites }
+    requires symbols { (T.state terms.old).declared ≡ declared_by problem.scope }
     requires room { length problem.scope < 2 ^ 32 - 1 }
-    ensures made { IsProblemMade (T.trees terms.new) result (with_command (stated (T.trees terms.old) problem) (items_of (E.tree e.now))) }
-    ensures grows { Extends (T.trees terms.old) (T.trees terms.new) }
-    ensures symbols { IfOk result (λ p. T.symbols terms.new ≡ constants p.scope) }
+    ensures made { IsProblemMade (T.state terms.new).trees result (with_command (stated (T.state terms.old).trees problem) (items_of (E.tree e.now))) }
+    ensures grows { Extends (T.state terms.old).trees (T.state terms.new).trees }
+    ensures symbols { IfOk result (λ p. (T.state terms.new).declared ≡ declared_by p.scope) }
     ensures room { IfOk result (λ p. length p.scope ≤ length problem.scope + 1) }
 {
     match e.len() {
@@ -102,15 +105,15 @@ fn with_command_of<E: Expr, T: Terms>(
 /// Reads the problem that a text of at most 2^32 - 2 bytes states, into terms that have no declared
 /// symbols yet. Its commands are `(declare-const NAME Bool)` and `(rewrite NAME LEFT RIGHT)`.
 ///
-/// An error is the first fault of the text, or want of memory. A refusal has the place of the first
-/// byte behind the last good command that is neither blank nor comment. After an error the terms may
-/// have grown, and symbols may have been declared; old ids stand.
+/// An error is the first fault of the text, or want of memory. Bytes that spell no command are refused
+/// with the reader's reason and place; a command that has none of the forms is `Unread`, at its first
+/// byte. After an error the terms may have grown, and symbols may have been declared; old ids stand.
 pub fn read_problem<T: Terms>(alloc: Global, bytes: &[u8], terms: &mut T) -> Result<Problem, Fault>
     requires short { length bytes.now ≤ 2 ^ 32 - 2 }
-    requires none { T.symbols terms.old ≡ [] }
-    ensures read { IsProblemRead (T.trees terms.new) result (problem_of bytes.now) }
-    ensures symbols { IfOk result (λ p. T.symbols terms.new ≡ constants p.scope) }
-    ensures grows { Extends (T.trees terms.old) (T.trees terms.new) }
+    requires none { (T.state terms.old).declared ≡ nothing_declared }
+    ensures read { IsProblemRead (T.state terms.new).trees result (problem_of bytes.now) }
+    ensures symbols { IfOk result (λ p. (T.state terms.new).declared ≡ declared_by p.scope) }
+    ensures grows { Extends (T.state terms.old).trees (T.state terms.new).trees }
 {
     let mut reader = Reader::new(alloc);
     let Ok(()) = reader.feed(bytes) else {

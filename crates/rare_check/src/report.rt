@@ -1,3 +1,4 @@
+//! The report on a proof.
 use crate::steps::StepFault;
 use rare_base::{Numbers, Text};
 use rare_list::Sequence;

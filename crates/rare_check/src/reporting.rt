@@ -1,8 +1,9 @@
+//! The report, by what the commands came to.
 ghost use Rattle.std.specs.Prelude.{◌≡◌, ◌||◌, false, nat_eq, List, ℕ, [], map, IfOk};
 ghost use Rattle.std.specs.List.{list_any};
-ghost use Rattle.rare_term.specs.declared.tree.Tree.{Tree};
+ghost use Rattle.rare_sort.specs.declared.tree.Tree.{Tree};
 ghost use Rattle.rare_check.specs.Checking.{report_with, verdicts_with};
-ghost use Rattle.rare_check.specs.Progress.{progress_of};
+ghost use Rattle.rare_check.specs.inner.Progress.{progress_of};
 ghost use Rattle.rare_check.specs.Stated.{stated, stated_rewrite};
 ghost use Rattle.rare_check.specs.Verdicts.{verdict_by};
 

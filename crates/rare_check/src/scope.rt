@@ -1,3 +1,4 @@
+//! The names that a text declared.
 ghost use Rattle.std.specs.Prelude.{◌≡◌, ◌+◌, ◌-◌, ◌^◌, ◌<◌, ◌≤◌, [], ◌∷◌, ◌++◌, Some, true, length, position, bytes_eq, slice_get, OnOk, OnErr, IfSome};
 ghost use Rattle.rare_check.specs.Names.{may_declare};
 
@@ -24,7 +25,7 @@ impl Model for Scope {
 }
 
 impl Scope {
-    /// The scope without names. It takes no memory.
+    /// The scope without names.
     pub fn new(alloc: Global) -> Scope
         ensures { result ≡ [] }
     {

@@ -1,3 +1,4 @@
+//! The rules of steps, and why a command is not valid.
 ghost use Rattle.std.specs.Prelude.{◌≡◌};
 ghost use Rattle.rare_check.specs.Words.{word_of};
 

@@ -1,3 +1,4 @@
+//! Why nothing was read.
 use std::alloc::AllocError;
 
 /// Why a command is not read.

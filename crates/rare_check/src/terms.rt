@@ -1,10 +1,13 @@
-ghost use Rattle.std.specs.Prelude.{◌≡◌, ◌&&◌, ℕ, ◌+◌, ◌<◌, bytes_eq, length, IfSome};
+//! Terms, read from expressions.
+ghost use Rattle.std.specs.Prelude.{◌≡◌, ◌&&◌, ℕ, ◌+◌, ◌<◌, [], bytes_eq, length, IfSome};
 ghost use Rattle.rare_sexpr.specs.Tree.{kind_of, text_of, items_of};
-ghost use Rattle.rare_term.specs.Trees.{trees_at, AreIds, Extends};
-ghost use Rattle.rare_term.specs.Sorts.{HasSymbol};
+ghost use Rattle.rare_sort.specs.Ids.{trees_at, AreIds, Extends};
+ghost use Rattle.rare_sort.specs.DeclaredSorts.{IsSymbol};
+ghost use Rattle.rare_sort.specs.Families.{family};
+ghost use Rattle.rare_term.specs.Literals.{IsGiven};
 ghost use Rattle.rare_check.specs.Forms.{is_symbol, is_word_at, is_keyword_at};
-ghost use Rattle.rare_check.specs.TermText.{constants, made_from, operator_at, named, term_at};
-ghost use Rattle.rare_check.specs.Answered.{IsRead};
+ghost use Rattle.rare_check.specs.TermText.{declared_by, made_from, operator_at, named, term_at};
+ghost use Rattle.rare_check.specs.inner.Answered.{IsRead};
 
 use crate::names::is_word;
 use crate::scope::Scope;
@@ -14,6 +17,7 @@ use rare_term::{Head, Ids, TermError, TermId, Terms};
 use std::alloc::Global;
 
 /// Whether the expression is a symbol.
+#[tactic(auto, unfolding(crate::specs::Forms::is_symbol_kind))]
 pub fn is_symbol_expression<E: Expr>(e: &E) -> bool
     ensures { result ≡ is_symbol (E.tree e.now) }
 {
@@ -28,6 +32,7 @@ pub fn is_word_expression<E: Expr>(e: &E, word: &str) -> bool
 }
 
 /// Whether the expression is the keyword with these bytes behind its colon.
+#[tactic(auto, unfolding(crate::specs::Forms::is_keyword_kind))]
 pub fn is_keyword_expression<E: Expr>(e: &E, word: &str) -> bool
     ensures { result ≡ is_keyword_at word.now (E.tree e.now) }
 {
@@ -37,7 +42,8 @@ pub fn is_keyword_expression<E: Expr>(e: &E, word: &str) -> bool
 // The operator that an expression names.
 fn operator<E: Expr>(e: &E) -> Option<Head>
     ensures is { result ≡ operator_at (E.tree e.now) }
-    ensures known { IfSome result (λ h. (n : ℕ) → HasSymbol n h) }
+    ensures known { IfSome result (λ h. (n : ℕ) → IsSymbol n (family h)) }
+    ensures bits { IfSome result (λ h. IsGiven h []) }
 {
     if is_word_expression(e, "not") {
         Some(Head::Not)
@@ -54,13 +60,14 @@ fn operator<E: Expr>(e: &E) -> Option<Head>
 
 // The term with this head and these arguments, unless it is refused.
 fn made<T: Terms>(terms: &mut T, head: Head, args: &[TermId]) -> Result<TermId, Stop>
-    requires ids { AreIds (length (T.trees terms.old)) args.now }
-    requires symbol { HasSymbol (length (T.symbols terms.old)) head }
-    ensures read { IsRead (T.trees terms.new) result (made_from (T.symbols terms.old) head (trees_at (T.trees terms.old) args.now)) }
-    ensures grows { Extends (T.trees terms.old) (T.trees terms.new) }
-    ensures symbols { T.symbols terms.new ≡ T.symbols terms.old }
+    requires ids { AreIds (length (T.state terms.old).trees) args.now }
+    requires symbol { IsSymbol (length (T.state terms.old).declared.symbols) (family head) }
+    requires bits { IsGiven head [] }
+    ensures read { IsRead (T.state terms.new).trees result (made_from (T.state terms.old).declared head (trees_at (T.state terms.old).trees args.now)) }
+    ensures grows { Extends (T.state terms.old).trees (T.state terms.new).trees }
+    ensures symbols { (T.state terms.new).declared ≡ (T.state terms.old).declared }
 {
-    match terms.make(head, args) {
+    match terms.make(head, &[], args) {
         Ok(id) => Ok(id),
         Err(TermError::Memory) => Err(Stop::Memory),
         Err(_) => Err(Stop::Unread),
@@ -69,10 +76,10 @@ fn made<T: Terms>(terms: &mut T, head: Head, args: &[TermId]) -> Result<TermId, 
 
 // The term that a symbol is.
 fn read_symbol<T: Terms>(text: &[u8], scope: &Scope, terms: &mut T) -> Result<TermId, Stop>
-    requires symbols { T.symbols terms.old ≡ constants scope.now }
-    ensures read { IsRead (T.trees terms.new) result (named scope.now text.now) }
-    ensures grows { Extends (T.trees terms.old) (T.trees terms.new) }
-    ensures symbols { T.symbols terms.new ≡ T.symbols terms.old }
+    requires symbols { (T.state terms.old).declared ≡ declared_by scope.now }
+    ensures read { IsRead (T.state terms.new).trees result (named scope.now text.now) }
+    ensures grows { Extends (T.state terms.old).trees (T.state terms.new).trees }
+    ensures symbols { (T.state terms.new).declared ≡ (T.state terms.old).declared }
 {
     if is_word(text, "true") {
         return made(terms, Head::True, &[]);
@@ -94,10 +101,10 @@ pub fn read_term<E: Expr, T: Terms>(
     scope: &Scope,
     terms: &mut T,
 ) -> Result<TermId, Stop>
-    requires symbols { T.symbols terms.old ≡ constants scope.now }
-    ensures read { IsRead (T.trees terms.new) result (term_at scope.now (E.tree e.now)) }
-    ensures grows { Extends (T.trees terms.old) (T.trees terms.new) }
-    ensures symbols { T.symbols terms.new ≡ T.symbols terms.old }
+    requires symbols { (T.state terms.old).declared ≡ declared_by scope.now }
+    ensures read { IsRead (T.state terms.new).trees result (term_at scope.now (E.tree e.now)) }
+    ensures grows { Extends (T.state terms.old).trees (T.state terms.new).trees }
+    ensures symbols { (T.state terms.new).declared ≡ (T.state terms.old).declared }
 {
     if is_symbol_expression(e) {
         return read_symbol(e.text(), scope, terms);

@@ -1,5 +1,6 @@
+//! Problems and proofs with what is answered to them, and the limits.
 ghost use Rattle.std.specs.Prelude.{◌≡◌, ◌+◌, ◌≤◌, length};
-ghost use Rattle.rare_check.specs.TermText.{constants};
+ghost use Rattle.rare_check.specs.TermText.{declared_by};
 ghost use Rattle.rare_check.specs.Stated.{HaveIds};
 
 use crate::{Checker, Problem, Report, Scope, Verdict, read_problem};
@@ -49,8 +50,8 @@ fn check_pieces<T: Terms + Drop>(
     front: &[u8],
     back: &[u8],
 ) -> Result<Report, Fault>
-    requires ids { HaveIds (length (T.trees terms)) problem.rewrites }
-    requires symbols { T.symbols terms ≡ constants problem.scope }
+    requires ids { HaveIds (length (T.state terms).trees) problem.rewrites }
+    requires symbols { (T.state terms).declared ≡ declared_by problem.scope }
     requires short { length front.now + length back.now ≤ 100000 }
 {
     let mut checker = Checker::new(alloc, terms, problem);
@@ -75,7 +76,7 @@ fn show_answer(alloc: Global, problem: &[u8], front: &[u8], back: &[u8]) -> Resu
 }
 
 // Problems, and what is answered to them where the proof is empty.
-const PROBLEMS: [(&[u8], &[u8]); 34] = [
+const PROBLEMS: [(&[u8], &[u8]); 37] = [
     (b"", b""),
     (b"; nothing\n", b""),
     (b"(rewrite r1 true false)", b"M"),
@@ -104,7 +105,10 @@ const PROBLEMS: [(&[u8], &[u8]); 34] = [
     (b"(declare-const p Int)", b"problem 1:1 Unread"),
     (b"(declare-const p)", b"problem 1:1 Unread"),
     (b"(declare-const :p Bool)", b"problem 1:1 Unread"),
-    (b"(declare-const |p| Bool)", b"problem 1:1 Unread"),
+    (b"(declare-const \"p\" Bool)", b"problem 1:1 Unread"),
+    (b"(declare-const |p| Bool)(|rewrite| |r1| p |p|)", b"M"),
+    (b"(rewrite 1 true true)", b"problem 1:1 Unread"),
+    (b"(rewrite r1 |a\\b true)", b"problem 1:15 BadCharacter"),
     (b" (rewrite r1 p p)", b"problem 1:2 Unread"),
     (b"(rewrite r1 true)", b"problem 1:1 Unread"),
     (b"(rewrite r1 true true true)", b"problem 1:1 Unread"),
@@ -127,7 +131,7 @@ const PROBLEMS: [(&[u8], &[u8]); 34] = [
     (b"(rewrite r1 () true)", b"problem 1:1 Unread"),
     (b"()", b"problem 1:1 Unread"),
     (b"(rewrite r1 true true) true", b"problem 1:24 Unread"),
-    (b"(rewrite r1 true true)\n\n;\n(", b"problem 4:1 Unread"),
+    (b"(rewrite r1 true true)\n\n;\n(", b"problem 4:1 Unbalanced"),
 ];
 
 // The problem of the proofs.
@@ -135,7 +139,7 @@ const PROBLEM: &[u8] =
     b"(declare-const p Bool)(declare-const q Bool)(rewrite r1 p p)(rewrite r2 (and p q) (and p q))";
 
 // Proofs, and what is answered to them.
-const PROOFS: [(&[u8], &[u8]); 46] = [
+const PROOFS: [(&[u8], &[u8]); 47] = [
     (b"", b"MM"),
     (b"(step t1 (cl (= p p)) :rule refl)", b"MM"),
     (b"(step t1 (cl (= p p)) :rule refl)(conclude r1 t1)", b"VM"),
@@ -270,7 +274,11 @@ const PROOFS: [(&[u8], &[u8]); 46] = [
         b"proof 1:1 Unread",
     ),
     (b"(step t1 (= p p) :rule refl)", b"proof 1:1 Unread"),
-    (b"(step |t1| (cl (= p p)) :rule refl)", b"proof 1:1 Unread"),
+    (
+        b"(step \"t1\" (cl (= p p)) :rule refl)",
+        b"proof 1:1 Unread",
+    ),
+    (b"(step t1 (cl (= p |p", b"proof 1:19 OpenSymbol"),
     (b"(step t1 (cl (= s s)) :rule refl)", b"proof 1:1 Unread"),
     (b"(declare-const s Bool)", b"proof 1:1 Unread"),
     (
@@ -279,7 +287,7 @@ const PROOFS: [(&[u8], &[u8]); 46] = [
     ),
     (
         b"(step t1 (cl (= p p)) :rule refl)\n(conclude r1 t1",
-        b"proof 2:1 Unread",
+        b"proof 2:1 Unbalanced",
     ),
 ];
 

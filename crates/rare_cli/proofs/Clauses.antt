@@ -4,8 +4,6 @@ use Rattle.std.proofs.lemmas.Option.{none-some, same_Some}
 use Rattle.std.specs.List.{list_all}
 use Rattle.rare_base.specs.declared.answers.Status.{Status}
 use Rattle.rare_base.specs.declared.answers.Status.TheVariants as status
-use Rattle.rare_base.specs.declared.answers.Place.{Place}
-use Rattle.rare_base.specs.declared.answers.Reason.{Reason}
 use Rattle.rare_base.specs.Answers.{Refusal}
 use Rattle.rare_base.specs.Outside.{Rose, grown}
 use Rattle.rare_check.specs.declared.report.Report.{Report}
@@ -17,8 +15,11 @@ use Rattle.rare_cli.specs.declared.outcome.File.TheVariants.{Problem, Proof}
 use Rattle.rare_cli.specs.declared.outcome.Stop.{Stop}
 use Rattle.rare_cli.specs.declared.outcome.Stop.TheVariants.{BadWords, ReadFault, TooLong, Refused, Memory}
 use Rattle.rare_cli.specs.WordForms.{Names, form_of}
-use Rattle.rare_cli.specs.Outcomes.{Outcome, stop_line, stop_status, stop_outcome, is_valid, report_text, report_status, report_outcome, unless_long, unless_refused, outcome_of}
-use Rattle.rare_cli.specs.Causes.{Files, Tells, ReadsAs, IsLong, HasCause, IsReport, Allowed, bad_words, stopped, answered, Written, Takes, Cuts, Delivers, whole, cut, Stops, Reports}
+use Rattle.rare_cli.specs.Outcomes.{Outcome, stop_status, stop_outcome, is_valid, report_text, report_status, report_outcome, unless_long, unless_file_refused, outcome_of}
+use Rattle.rare_cli.specs.Calls.{Files, Tells, Written, Takes}
+use Rattle.rare_cli.specs.Causes.{ReadsAs, IsLong, HasStopCause, IsReport, Allowed, bad_words, stopped, answered, StopsBy, Says}
+use Rattle.rare_cli.specs.inner.Prepared.{Delivers, whole, cut}
+use Rattle.rare_cli.proofs.Truths.{all_true}
 
 -- ---- the outcome of texts, step by step
 
@@ -36,15 +37,15 @@ long_stops file text rest long = rw (ltb_yes (2 ^ 28) (length text) long) refl
 
 -- what follows on the text of the problem
 abbrev after_problem : List ℕ → Result StatedProblem Refusal → Outcome
-after_problem proof read = unless_refused Problem read (λ p. unless_long Proof proof (unless_refused Proof (checked p proof) (report_outcome p)))
+after_problem proof read = unless_file_refused Problem read (λ p. unless_long Proof proof (unless_file_refused Proof (checked p proof) (report_outcome p)))
 
 on_problem : (problem proof : List ℕ) (read : Result StatedProblem Refusal) → length problem ≤ 2 ^ 28 → problem_of problem ≡ read → outcome_of problem proof ≡ after_problem proof read
 on_problem problem proof read short e = short_passes Problem problem _ short ∙ ap (after_problem proof) e
 
 on_proof : (problem proof : List ℕ) (p : StatedProblem) (read : Result Report Refusal) → length problem ≤ 2 ^ 28 → problem_of problem ≡ Ok p → length proof ≤ 2 ^ 28 → checked p proof ≡ read →
-    outcome_of problem proof ≡ unless_refused Proof read (report_outcome p)
+    outcome_of problem proof ≡ unless_file_refused Proof read (report_outcome p)
 on_proof problem proof p read short e short' e' =
-    on_problem problem proof (Ok p) short e ∙ short_passes Proof proof _ short' ∙ ap (λ r. unless_refused Proof r (report_outcome p)) e'
+    on_problem problem proof (Ok p) short e ∙ short_passes Proof proof _ short' ∙ ap (λ r. unless_file_refused Proof r (report_outcome p)) e'
 
 -- ---- texts that are told
 
@@ -67,7 +68,7 @@ module _ (files : Files) (words : List (List ℕ)) where
   -- over texts that are told, where no count rose
   module _ (names : Names) (problem proof : List ℕ) (tp : files.told names.problem ≡ Some problem) (tq : files.told names.proof ≡ Some proof)
       (calm : (w : List ℕ) → Rose (files.before w) (files.after w) → ⊥) where
-    exact_stop : (stop : Stop) → HasCause files names stop → (stop_outcome stop ≡ outcome_of problem proof) ⊎ (stop ≡ Memory)
+    exact_stop : (stop : Stop) → HasStopCause files names stop → (stop_outcome stop ≡ outcome_of problem proof) ⊎ (stop ≡ Memory)
     exact_stop BadWords cause = absurd cause
     exact_stop (ReadFault f) cause = absurd (calm _ cause.0)
     exact_stop (TooLong Problem) cause = inl (sym (long_stops Problem problem _ (told_long _ problem tp cause.1)))
@@ -94,7 +95,7 @@ module _ (files : Files) (words : List (List ℕ)) where
     exact o form (bad_words none is) = absurd (none-some names (sym none ∙ form))
     exact o form (stopped names' form' stop cause is) =
         let same : names' ≡ names = same_Some names' names (sym form' ∙ form) in
-        let P : Names → Type 0 = λ n. HasCause files n stop in
+        let P : Names → Type 0 = λ n. HasStopCause files n stop in
         by (exact_stop stop (subst P same cause))
       where
         by : (stop_outcome stop ≡ outcome_of problem proof) ⊎ (stop ≡ Memory) → (o ≡ outcome_of problem proof) ⊎ (o ≡ stop_outcome Memory)
@@ -106,69 +107,36 @@ module _ (files : Files) (words : List (List ℕ)) where
         inl (is ∙ exact_report p report (subst P same holds))
 
   module _ (out : Written) where
-    -- what a status says
-    abbrev Says : Status → Type 0
-    Says status.AllGood = Reports files words out status.AllGood
-    Says status.NotAll = Reports files words out status.NotAll
-    Says status.BadWords = (form_of words ≡ None) × Takes out (stop_line BadWords)
-    Says status.BadText = (file : File) × (place : Place) × (reason : Reason) × Stops files words out (Refused file place reason)
-    Says status.ReadFault = (file : File) × Stops files words out (ReadFault file)
-    Says status.WriteFault = (o : Outcome) × Allowed files words o × Cuts out o.text
-    Says status.Memory = Stops files words out Memory
-    Says status.TooLong = (file : File) × Stops files words out (TooLong file)
-
-    clause_of_stop : (stop : Stop) → Stops files words out stop → Says (stop_status stop)
+    clause_of_stop : (stop : Stop) → StopsBy files words out stop → Says files words out (stop_status stop)
     clause_of_stop BadWords s = absurd s.cause
     clause_of_stop (ReadFault file) s = (file, s)
     clause_of_stop (TooLong file) s = (file, s)
     clause_of_stop (Refused file place reason) s = (file, place, reason, s)
     clause_of_stop Memory s = s
 
-    clause_of_report : (names : Names) → form_of words ≡ Some names → (p : StatedProblem) (report : Report) → IsReport files names p report → Takes out (report_text p report) → Says (report_status report)
+    clause_of_report : (names : Names) → form_of words ≡ Some names → (p : StatedProblem) (report : Report) → IsReport files names p report → Takes out (report_text p report) → Says files words out (report_status report)
     clause_of_report names form p (Invalid name fault) holds took =
         record { names = names; form = form; problem = p; report = Invalid name fault; holds = holds; status = refl; written = took }
     clause_of_report names form p (Checked verdicts trusted) holds took = by (list_all is_valid verdicts) refl
       where
-        by : (b : Bool) → list_all is_valid verdicts ≡ b → Says (if b then status.AllGood else status.NotAll)
-        by true e = record { names = names; form = form; problem = p; report = Checked verdicts trusted; holds = holds; status = ap (λ b. if b then status.AllGood else status.NotAll) (sym e); written = took }
+        by : (b : Bool) → list_all is_valid verdicts ≡ b → Says files words out (if b then status.AllGood else status.NotAll)
+        by true e = record {
+          reports = record { names = names; form = form; problem = p; report = Checked verdicts trusted; holds = holds; status = ap (λ b. if b then status.AllGood else status.NotAll) (sym e); written = took };
+          all_true = all_true p holds.proof.text verdicts trusted holds.proof.reads e holds.valid;
+        }
         by false e = record { names = names; form = form; problem = p; report = Checked verdicts trusted; holds = holds; status = ap (λ b. if b then status.AllGood else status.NotAll) (sym e); written = took }
 
-    pub says : (o : Outcome) (result : Status) → Allowed files words o → Delivers o result out → Says result
-    says o result a (cut is cuts) = subst Says (sym is) (o, a, cuts)
+    pub says : (o : Outcome) (result : Status) → Allowed files words o → Delivers o result out → Says files words out result
+    says o result a (cut is cuts) = subst (Says files words out) (sym is) (o, a, cuts)
     says o result (bad_words none e) (whole is took) =
-        subst Says (sym (is ∙ ap (λ x. x.status) e)) (none, subst (Takes out) (ap (λ x. x.text) e) took)
+        subst (Says files words out) (sym (is ∙ ap (λ x. x.status) e)) (none, subst (Takes out) (ap (λ x. x.text) e) took)
     says o result (stopped names form stop cause e) (whole is took) =
-        subst Says (sym (is ∙ ap (λ x. x.status) e))
+        subst (Says files words out) (sym (is ∙ ap (λ x. x.status) e))
         (clause_of_stop stop (record { names = names; form = form; cause = cause; written = subst (Takes out) (ap (λ x. x.text) e) took }))
     says o result (answered names form p report holds e) (whole is took) =
-        subst Says (sym (is ∙ ap (λ x. x.status) e)) (clause_of_report names form p report holds (subst (Takes out) (ap (λ x. x.text) e) took))
+        subst (Says files words out) (sym (is ∙ ap (λ x. x.status) e)) (clause_of_report names form p report holds (subst (Takes out) (ap (λ x. x.text) e) took))
 
     module _ (o : Outcome) (result : Status) (a : Allowed files words o) (d : Delivers o result out) where
-      pub clause_bad_words : result ≡ status.BadWords → (form_of words ≡ None) × (out.after ≡ out.before)
-      clause_bad_words s = let r = subst Says s (says o result a d) in (r.0, r.1.quiet)
-
-      pub clause_usage : result ≡ status.BadWords → Takes out (stop_line BadWords)
-      clause_usage s = let r = subst Says s (says o result a d) in r.1
-
-      pub clause_checked : (result ≡ status.AllGood) ⊎ (result ≡ status.NotAll) → Reports files words out result
-      clause_checked (inl s) = let P : Status → Type 0 = λ s. Reports files words out s in subst P (sym s) (subst Says s (says o result a d))
-      clause_checked (inr s) = let P : Status → Type 0 = λ s. Reports files words out s in subst P (sym s) (subst Says s (says o result a d))
-
-      pub clause_refused : result ≡ status.BadText → (file : File) × (place : Place) × (reason : Reason) × Stops files words out (Refused file place reason)
-      clause_refused s = subst Says s (says o result a d)
-
-      pub clause_too_long : result ≡ status.TooLong → (file : File) × Stops files words out (TooLong file)
-      clause_too_long s = subst Says s (says o result a d)
-
-      pub clause_read_fault : result ≡ status.ReadFault → (file : File) × Stops files words out (ReadFault file)
-      clause_read_fault s = subst Says s (says o result a d)
-
-      pub clause_write_fault : result ≡ status.WriteFault → (o : Outcome) × Allowed files words o × Cuts out o.text
-      clause_write_fault s = subst Says s (says o result a d)
-
-      pub clause_memory : result ≡ status.Memory → Takes out (stop_line Memory)
-      clause_memory s = let P : Status → Type 0 = Says in let r : Says status.Memory = subst P s (says o result a d) in r.written
-
       pub clause_no_form : out.before < 2 ^ 64 - 1 → form_of words ≡ None → out.after ≡ out.before → result ≡ status.BadWords
       clause_no_form room none same = by a d
         where

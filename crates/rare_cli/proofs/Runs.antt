@@ -5,22 +5,23 @@ use Rattle.rare_base.specs.declared.answers.Status.TheVariants as status
 use Rattle.rare_base.specs.Outside.{Rose}
 use Rattle.rare_base.specs.declared.outside.ReadError.{ReadError}
 use Rattle.rare_base.specs.declared.outside.ReadError.TheVariants as read
-use Rattle.rare_check.specs.Checking.{Checking, start, answer, ValidAreTrue}
+use Rattle.rare_check.specs.Checking.{Checking, start, answer}
+use Rattle.rare_check.specs.Verdicts.{ValidAreTrue, checked}
 use Rattle.rare_check.specs.declared.problem.Rewrite.{Rewrite}
 use Rattle.rare_check.specs.declared.problem.Problem.{Problem}
 use Rattle.rare_check.specs.Stated.{stated, stated_rewrite}
-use Rattle.rare_check.specs.Verdicts.{checked}
 use Rattle.rare_check.specs.declared.report.Report.{Report}
 use Rattle.rare_check.specs.ProblemText.{StatedProblem}
-use Rattle.rare_term.specs.declared.tree.Tree.{Tree}
+use Rattle.rare_sort.specs.declared.tree.Tree.{Tree}
 use Rattle.rare_cli.specs.declared.outcome.File.{File}
 use Rattle.rare_cli.specs.declared.outcome.Stop.{Stop}
 use Rattle.rare_cli.specs.declared.outcome.Stop.TheVariants.{BadWords, ReadFault, TooLong, Refused, Memory}
 use Rattle.rare_cli.specs.declared.outcome.Answer.{Answer}
 use Rattle.rare_cli.specs.WordForms.{Names, form_of}
 use Rattle.rare_cli.specs.Outcomes.{Outcome, stop_outcome, report_lines, report_text, report_status, report_outcome}
-use Rattle.rare_cli.specs.Causes.{Files, IsQuiet, Tells, IsLong, Allowed, bad_words, stopped, answered}
-use Rattle.rare_cli.specs.Prepared.{answer_outcome, Becomes, IsTextOf, IsChecked, outcome_in, stop_of_read}
+use Rattle.rare_cli.specs.Calls.{Files, IsQuiet, Tells}
+use Rattle.rare_cli.specs.Causes.{IsLong, Allowed, bad_words, stopped, answered}
+use Rattle.rare_cli.specs.inner.Prepared.{answer_outcome, Becomes, IsTextOf, IsChecked, outcome_in, stop_of_read}
 
 -- a text under a name, whether it is told or not
 some_long : (told : Option (List ℕ)) (n : ℕ) → IfSome told (λ all. n < length all) → (text : List ℕ) × Tells told text × (n < length text)

@@ -1,49 +1,38 @@
 -- Why a run writes what it writes, also over a library that does not tell the texts of its files, and how much of it.
-use Rattle.std.specs.Prelude.{◌≡◌, ℕ, ◌^◌, ◌<◌, ◌≤◌, List, length, take, Option, Some, None, IfSome, Result, Ok, Err}
+use Rattle.std.specs.Prelude.{◌≡◌, ◌≢◌, ℕ, ◌<◌, ◌≤◌, List, length, slice_get, Option, Some, None, Result, Ok, Err}
 use Rattle.rare_base.specs.declared.answers.Status.{Status}
-use Rattle.rare_base.specs.declared.answers.Status.TheVariants.{WriteFault}
-use Rattle.rare_base.specs.Answers.{Refusal}
+use Rattle.rare_base.specs.declared.answers.Status.TheVariants as status
+use Rattle.rare_base.specs.declared.answers.Place.{Place}
+use Rattle.rare_base.specs.declared.answers.Reason.{Reason}
+use Rattle.rare_base.specs.Answers.{Refusal, number_of}
 use Rattle.rare_base.specs.Outside.{Rose, grown}
+use Rattle.rare_base.specs.Reads.{most_file_bytes}
+use Rattle.rare_meaning.specs.Interpretations.{AnyFunctions}
+use Rattle.rare_meaning.specs.TrueRewrite.{IsTrueRewrite}
 use Rattle.rare_check.specs.declared.report.Report.{Report}
-use Rattle.rare_check.specs.ProblemText.{StatedProblem, problem_of}
-use Rattle.rare_check.specs.Verdicts.{checked}
-use Rattle.rare_check.specs.Checking.{ValidAreTrue}
-use Rattle.rare_cli.specs.WordForms.{Names, name_of, form_of}
-use Rattle.rare_cli.specs.Outcomes.{Outcome, stop_line, stop_outcome, report_text, report_status, report_outcome}
+use Rattle.rare_check.specs.TermText.{declared_by}
+use Rattle.rare_check.specs.ProblemText.{StatedProblem, StatedRewrite, problem_of}
+use Rattle.rare_check.specs.Verdicts.{checked, ValidAreTrue}
+use Rattle.rare_cli.specs.Calls.{Files, IsQuiet, Tells, Written, Takes, Cuts}
+use Rattle.rare_cli.specs.WordForms.{Names, name_of_file, form_of}
+use Rattle.rare_cli.specs.Outcomes.{Outcome, outcome_of, stop_line, stop_outcome, report_text, report_status, report_outcome}
 use Rattle.rare_cli.specs.declared.outcome.File.{File}
 use Rattle.rare_cli.specs.declared.outcome.File.TheVariants.{Problem, Proof}
 use Rattle.rare_cli.specs.declared.outcome.Stop.{Stop}
 use Rattle.rare_cli.specs.declared.outcome.Stop.TheVariants.{BadWords, ReadFault, TooLong, Refused, Memory}
 
--- a library in a call: the texts that it tells, and how often reads of each name had failed before and after
-pub record Files : Type 0 where
-  pub told : List ℕ → Option (List ℕ)
-  pub before : List ℕ → ℕ
-  pub after : List ℕ → ℕ
-
-abbrev pub library : (List ℕ → Option (List ℕ)) → (List ℕ → ℕ) → (List ℕ → ℕ) → Files
-library told before after = record { told = told; before = before; after = after }
-
--- no count rose
-abbrev pub IsQuiet : Files → Type 0
-IsQuiet files = (w : List ℕ) → files.after w ≡ files.before w
-
--- the text of a file, where it is told
-abbrev pub Tells : Option (List ℕ) → List ℕ → Type 0
-Tells told text = IfSome told (λ all. all ≡ text)
-
--- a text that a file may have, of at most 2^28 bytes, is read as this
+-- a text that a file may have, and that is not too long, is read as this
 pub record ReadsAs {A : Type 0} (told : Option (List ℕ)) (read : List ℕ → Result A Refusal) (as_this : Result A Refusal) : Type 0 where
   pub text : List ℕ
   pub held : Tells told text
-  pub short : length text ≤ 2 ^ 28
+  pub short : length text ≤ most_file_bytes
   pub reads : read text ≡ as_this
 
 -- a text that a file may have is too long
 pub record IsLong (told : Option (List ℕ)) : Type 0 where
   pub text : List ℕ
   pub held : Tells told text
-  pub long : 2 ^ 28 < length text
+  pub long : most_file_bytes < length text
 
 abbrev pub IsProblem : Files → Names → StatedProblem → Type 0
 IsProblem files names p = ReadsAs (files.told names.problem) problem_of (Ok p)
@@ -53,17 +42,17 @@ abbrev pub HaveReadings : Files → Names → File → Type 0
 HaveReadings files names Problem = Unit {0}
 HaveReadings files names Proof = (p : StatedProblem) × IsProblem files names p
 
-abbrev pub IsRefused : Files → Names → File → Refusal → Type 0
-IsRefused files names Problem r = ReadsAs (files.told names.problem) problem_of (Err r)
-IsRefused files names Proof r = (p : StatedProblem) × IsProblem files names p × ReadsAs (files.told names.proof) (checked p) (Err r)
+abbrev pub IsRefusedFile : Files → Names → File → Refusal → Type 0
+IsRefusedFile files names Problem r = ReadsAs (files.told names.problem) problem_of (Err r)
+IsRefusedFile files names Proof r = (p : StatedProblem) × IsProblem files names p × ReadsAs (files.told names.proof) (checked p) (Err r)
 
 -- why a run over these files stops
-abbrev pub HasCause : Files → Names → Stop → Type 0
-HasCause files names BadWords = ⊥
-HasCause files names (ReadFault file) = Rose (files.before (name_of names file)) (files.after (name_of names file)) × HaveReadings files names file
-HasCause files names (TooLong file) = IsQuiet files × IsLong (files.told (name_of names file)) × HaveReadings files names file
-HasCause files names (Refused file place reason) = IsQuiet files × IsRefused files names file (record { place = place; reason = reason })
-HasCause files names Memory = Unit {0}
+abbrev pub HasStopCause : Files → Names → Stop → Type 0
+HasStopCause files names BadWords = ⊥
+HasStopCause files names (ReadFault file) = Rose (files.before (name_of_file names file)) (files.after (name_of_file names file)) × HaveReadings files names file
+HasStopCause files names (TooLong file) = IsQuiet files × IsLong (files.told (name_of_file names file)) × HaveReadings files names file
+HasStopCause files names (Refused file place reason) = IsQuiet files × IsRefusedFile files names file (record { place = place; reason = reason })
+HasStopCause files names Memory = Unit {0}
 
 -- the report on the proof that the files hold, and that each rewrite which it calls valid is true
 pub record IsReport (files : Files) (names : Names) (p : StatedProblem) (report : Report) : Type 0 where
@@ -75,42 +64,16 @@ pub record IsReport (files : Files) (names : Names) (p : StatedProblem) (report 
 -- what a run may mean to write, and why
 pub data Allowed (files : Files) (words : List (List ℕ)) (o : Outcome) : Type 0 where
   bad_words : form_of words ≡ None → o ≡ stop_outcome BadWords → Allowed files words o
-  stopped : (names : Names) → form_of words ≡ Some names → (stop : Stop) → HasCause files names stop → o ≡ stop_outcome stop → Allowed files words o
+  stopped : (names : Names) → form_of words ≡ Some names → (stop : Stop) → HasStopCause files names stop → o ≡ stop_outcome stop → Allowed files words o
   answered : (names : Names) → form_of words ≡ Some names → (p : StatedProblem) (report : Report) → IsReport files names p report → o ≡ report_outcome p report → Allowed files words o
 
 -- ---- what became of it
 
--- a sink in a call: what was written before and after, where it is told, and how often puts had failed
-pub record Written : Type 0 where
-  pub was : Option (List ℕ)
-  pub now : Option (List ℕ)
-  pub before : ℕ
-  pub after : ℕ
-
-abbrev pub sink : Option (List ℕ) → Option (List ℕ) → ℕ → ℕ → Written
-sink was now before after = record { was = was; now = now; before = before; after = after }
-
--- the sink took the whole text
-pub record Takes (out : Written) (text : List ℕ) : Type 0 where
-  pub written : out.now ≡ grown out.was text
-  pub quiet : out.after ≡ out.before
-
--- the sink took a proper front of the text, and a put failed
-pub record Cuts (out : Written) (text : List ℕ) : Type 0 where
-  pub count : ℕ
-  pub proper : count < length text
-  pub written : out.now ≡ grown out.was (take count text)
-  pub failed : Rose out.before out.after
-
-pub data Delivers (o : Outcome) (result : Status) (out : Written) : Type 0 where
-  whole : result ≡ o.status → Takes out o.text → Delivers o result out
-  cut : result ≡ WriteFault → Cuts out o.text → Delivers o result out
-
 -- the words are a form, the run stopped by this cause, and its line was written
-pub record Stops (files : Files) (words : List (List ℕ)) (out : Written) (stop : Stop) : Type 0 where
+pub record StopsBy (files : Files) (words : List (List ℕ)) (out : Written) (stop : Stop) : Type 0 where
   pub names : Names
   pub form : form_of words ≡ Some names
-  pub cause : HasCause files names stop
+  pub cause : HasStopCause files names stop
   pub written : Takes out (stop_line stop)
 
 -- the words are a form, and the report with this status was written
@@ -122,3 +85,43 @@ pub record Reports (files : Files) (words : List (List ℕ)) (out : Written) (re
   pub holds : IsReport files names problem report
   pub status : result ≡ report_status report
   pub written : Takes out (report_text problem report)
+
+-- The main statement of status 0: each rewrite that a problem states is true.
+abbrev pub AllAreTrue : StatedProblem → Type 0
+AllAreTrue p = (k : ℕ) (r : StatedRewrite) → slice_get p.rewrites k ≡ Some r → IsTrueRewrite AnyFunctions (declared_by p.names) r.left r.right
+
+-- a report was written that calls each rewrite valid, and each is true
+pub record Proves (files : Files) (words : List (List ℕ)) (out : Written) : Type 0 where
+  pub reports : Reports files words out status.AllGood
+  pub all_true : AllAreTrue reports.problem
+
+-- the table of statuses: what each says of these files, these words and this sink
+abbrev pub Says : Files → List (List ℕ) → Written → Status → Type 0
+Says files words out status.AllGood = Proves files words out
+Says files words out status.NotAll = Reports files words out status.NotAll
+Says files words out status.BadWords = (form_of words ≡ None) × Takes out (stop_line BadWords)
+Says files words out status.BadText = (file : File) × (place : Place) × (reason : Reason) × StopsBy files words out (Refused file place reason)
+Says files words out status.ReadFault = (file : File) × StopsBy files words out (ReadFault file)
+Says files words out status.WriteFault = (o : Outcome) × Allowed files words o × Cuts out o.text
+Says files words out status.Memory = StopsBy files words out Memory
+Says files words out status.TooLong = (file : File) × StopsBy files words out (TooLong file)
+
+-- words that are no form are bad words, unless a put failed
+abbrev pub RefusesWords : List (List ℕ) → Written → Status → Type 0
+RefusesWords words out result = form_of words ≡ None → out.after ≡ out.before → result ≡ status.BadWords
+
+-- a run over texts that are told, where no read and no put failed and memory was found: exactly the outcome of the texts
+abbrev pub AnswersTexts : Files → List (List ℕ) → Written → Status → Type 0
+AnswersTexts files words out result =
+    (names : Names) (problem proof : List ℕ) → form_of words ≡ Some names →
+    files.told names.problem ≡ Some problem → files.told names.proof ≡ Some proof →
+    IsQuiet files → out.after ≡ out.before → (result ≢ status.Memory) →
+    (result ≡ (outcome_of problem proof).status) × (out.now ≡ grown out.was (outcome_of problem proof).text)
+
+-- the program ends with the number of a status of which all this holds
+pub record EndsWith (files : Files) (words : List (List ℕ)) (out : Written) (code : ℕ) : Type 0 where
+  pub status : Status
+  pub says : Says files words out status
+  pub bad_words : RefusesWords words out status
+  pub told : AnswersTexts files words out status
+  pub number : code ≡ number_of status

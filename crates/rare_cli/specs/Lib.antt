@@ -1,4 +1,5 @@
 pub mod WordForms
 pub mod Outcomes
+pub mod Calls
 pub mod Causes
-pub mod Prepared
+pub mod inner

@@ -1,10 +1,11 @@
 -- What a run writes, and with which status.
-use Rattle.std.specs.Prelude.{ℕ, ◌^◌, Bool, true, false, nat_lt, List, [], ◌∷◌, ◌++◌, length, codes, decimal, Result, Ok, Err, if◌then◌else◌}
+use Rattle.std.specs.Prelude.{ℕ, Bool, true, false, nat_lt, List, [], ◌∷◌, ◌++◌, length, codes, decimal, Result, Ok, Err, if◌then◌else◌}
 use Rattle.std.specs.List.{flat_map, list_all, zip}
 use Rattle.rare_base.specs.declared.answers.Status.{Status}
 use Rattle.rare_base.specs.declared.answers.Status.TheVariants as status
 use Rattle.rare_base.specs.Answers.{Refusal}
 use Rattle.rare_base.specs.Answers as base
+use Rattle.rare_base.specs.Reads.{most_file_bytes}
 use Rattle.rare_sexpr.specs.Written.{written_symbol}
 use Rattle.rare_check.specs.declared.report.Report.{Report}
 use Rattle.rare_check.specs.declared.report.Report.TheVariants.{Checked, Invalid}
@@ -90,13 +91,13 @@ report_outcome p report = record { text = report_text p report; status = report_
 -- ---- the outcome of the texts of a problem and a proof: the first refusal, or else the report
 
 abbrev pub unless_long : File → List ℕ → Outcome → Outcome
-unless_long file text rest = if nat_lt (2 ^ 28) (length text) then stop_outcome (TooLong file) else rest
+unless_long file text rest = if nat_lt most_file_bytes (length text) then stop_outcome (TooLong file) else rest
 
-abbrev pub unless_refused : {A : Type 0} → File → Result A Refusal → (A → Outcome) → Outcome
-unless_refused file (Ok x) rest = rest x
-unless_refused file (Err r) rest = stop_outcome (Refused file r.place r.reason)
+abbrev pub unless_file_refused : {A : Type 0} → File → Result A Refusal → (A → Outcome) → Outcome
+unless_file_refused file (Ok x) rest = rest x
+unless_file_refused file (Err r) rest = stop_outcome (Refused file r.place r.reason)
 
 abbrev pub outcome_of : List ℕ → List ℕ → Outcome
 outcome_of problem proof =
-    unless_long Problem problem (unless_refused Problem (problem_of problem) (λ p.
-    unless_long Proof proof (unless_refused Proof (checked p proof) (report_outcome p))))
+    unless_long Problem problem (unless_file_refused Problem (problem_of problem) (λ p.
+    unless_long Proof proof (unless_file_refused Proof (checked p proof) (report_outcome p))))

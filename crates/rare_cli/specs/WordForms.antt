@@ -9,9 +9,9 @@ pub record Names : Type 0 where
   pub problem : List ℕ
   pub proof : List ℕ
 
-abbrev pub name_of : Names → File → List ℕ
-name_of names Problem = names.problem
-name_of names Proof = names.proof
+abbrev pub name_of_file : Names → File → List ℕ
+name_of_file names Problem = names.problem
+name_of_file names Proof = names.proof
 
 -- a word that begins with -- is no file
 abbrev pub is_file : List ℕ → Bool

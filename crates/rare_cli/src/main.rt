@@ -1,14 +1,20 @@
 //! The program `rare`: it checks proofs of rewrites of SMT-LIB terms.
 #![tactic(auto)]
 
-ghost use Rattle.std.specs.Prelude.{◌≡◌};
+ghost use Rattle.std.specs.Prelude.{◌≡◌, ◌≢◌};
+ghost use Rattle.std.specs.IoError.{error_kind};
 
 mod outcome;
 mod run;
 #[cfg(test)]
 mod tests;
+mod words;
 
-use rare_base::{FileLibrary, OutSink, Status, Text, Texts};
+use crate::run::exit_number;
+use crate::words::words_of;
+use rare_base::{FileLibrary, OutSink, Status, Texts};
+use std::alloc::AllocError;
+use std::io::ErrorKind;
 use std::process::ExitCode;
 use std::{env, io};
 
@@ -22,8 +28,8 @@ enum NoWords {
 }
 
 impl NoWords {
-    /// The status with which the program ends, which for want of memory is that of `run`.
-    fn status(self) -> u8
+    /// The number with which the program ends, which for want of memory is that of `run`.
+    fn exit_number(self) -> u8
         ensures memory { self ≡ NoWords.Memory → result ≡ 6 }
         ensures refused { self ≡ NoWords.Refused → result ≡ 8 }
     {
@@ -34,32 +40,44 @@ impl NoWords {
     }
 }
 
-/// The words after the program's name.
-fn words(rt: &HostRuntime) -> Result<Texts, NoWords> {
-    let args = match env::args(rt) {
-        Ok(args) => args,
-        Err(e) if e.kind() == io::ErrorKind::OutOfMemory => return Err(NoWords::Memory),
-        Err(_) => return Err(NoWords::Refused),
-    };
-    let mut words = Texts::new(rt.alloc());
-    for arg in args.skip(1) {
-        let Ok(word) = Text::of(rt.alloc(), arg.as_bytes()) else {
-            return Err(NoWords::Memory);
-        };
-        let Ok(()) = words.push(word) else {
-            return Err(NoWords::Memory);
-        };
+impl From<AllocError> for NoWords {
+    ghost use Rattle.std.specs.Prelude.{◌≡◌};
+    ghost use Rattle.rare_cli.specs.declared.NoWords.TheVariants.{Memory};
+
+    ghost from_gives = { λ _ cause. cause ≡ Memory };
+
+    fn from(_: AllocError) -> NoWords {
+        NoWords::Memory
     }
-    Ok(words)
+}
+
+/// Why the system gives no arguments.
+fn cause_of(error: &io::Error) -> NoWords
+    ensures memory { error_kind error.now ≡ ErrorKind.OutOfMemory → result ≡ NoWords.Memory }
+    ensures refused { error_kind error.now ≢ ErrorKind.OutOfMemory → result ≡ NoWords.Refused }
+{
+    match error.kind() {
+        ErrorKind::OutOfMemory => NoWords::Memory,
+        _ => NoWords::Refused,
+    }
+}
+
+/// The words after the program's name.
+fn words_given(rt: &HostRuntime) -> Result<Texts, NoWords> {
+    match env::args(rt) {
+        Ok(args) => Ok(words_of(rt.alloc(), args)?),
+        Err(error) => Err(cause_of(&error)),
+    }
 }
 
 fn main(rt: HostRuntime) -> ExitCode {
-    match words(&rt) {
-        Ok(words) => {
-            let mut files = FileLibrary::new(&rt);
-            let mut out = OutSink::new(&rt);
-            ExitCode::from(run::run(rt.alloc(), &words, &mut files, &mut out).number())
-        }
-        Err(cause) => ExitCode::from(cause.status()),
-    }
+    ExitCode::from(match words_given(&rt) {
+        Ok(words) => exit_number(
+            rt.alloc(),
+            &words,
+            &mut FileLibrary::new(&rt),
+            &mut OutSink::new(&rt),
+        ),
+        Err(cause) => cause.exit_number(),
+    })
 }

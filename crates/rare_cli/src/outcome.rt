@@ -1,8 +1,10 @@
+//! What a run writes: the line of each status, and the lines of a report.
+
 ghost use Rattle.std.specs.Prelude.{◌≡◌, [], ◌∷◌, ◌++◌, map, option_map, OnOk, IfOk};
 ghost use Rattle.std.specs.List.{flat_map, list_all, zip};
 ghost use Rattle.rare_cli.specs.WordForms.{form_of, is_file};
 ghost use Rattle.rare_cli.specs.Outcomes.{file_word, stop_line, verdict_text, is_valid, rewrite_line, invalid_line, report_lines, report_status};
-ghost use Rattle.rare_cli.specs.Prepared.{stop_of_read, stop_of_fault};
+ghost use Rattle.rare_cli.specs.inner.Prepared.{stop_of_read, stop_of_fault};
 
 use rare_base::{Fault, Place, ReadError, Reason, Status, Text, Texts};
 use rare_check::{Report, Rewrite, StepFault, Verdict};
@@ -23,7 +25,7 @@ pub enum Stop {
     BadWords,
     /// A read of the file failed.
     ReadFault(File),
-    /// The file has more than 2^28 bytes.
+    /// The file has more bytes than a file may have, 2^28.
     TooLong(File),
     /// The file has no reading: the place and the reason of its first fault.
     Refused {
@@ -95,7 +97,8 @@ fn is_file_name(word: &[u8]) -> bool
 
 /// The names of the problem and the proof, where the words are `check - PROBLEM PROOF`.
 pub fn form(words: &[Text]) -> Option<FileNames<'_>>
-    ensures { form_of words.now ≡ option_map (λ r. record { problem = r.problem.now; proof = r.proof.now }) result }
+    ensures { form_of words.now
+        ≡ option_map (λ r. record { problem = r.problem.now; proof = r.proof.now }) result }
 {
     match words {
         [command, rules, problem, proof] => {
@@ -198,7 +201,8 @@ fn write_rewrite(out: &mut Text, name: &[u8], verdict: Verdict) -> Result<(), Al
 }
 
 fn write_verdicts(out: &mut Text, names: &[Text], verdicts: &[Verdict]) -> Result<(), AllocError>
-    ensures { OnOk result (out.new ≡ out.old ++ flat_map rewrite_line (zip names.now verdicts.now)) }
+    ensures { OnOk result
+        (out.new ≡ out.old ++ flat_map rewrite_line (zip names.now verdicts.now)) }
 {
     for (name, verdict) in names.iter().zip(verdicts) {
         write_rewrite(out, name.bytes(), *verdict)?;

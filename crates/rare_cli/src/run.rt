@@ -1,16 +1,19 @@
-ghost use Rattle.std.specs.Prelude.{◌≡◌, ◌≢◌, ◌⊎◌, ◌↔◌, ℕ, ◌+◌, ◌-◌, ◌^◌, ◌<◌, ◌≤◌, List, [], ◌∷◌, length, Some, None, IfOk, IfErr, OnOk};
-ghost use Rattle.rare_base.specs.Outside.{Rose, grown};
-ghost use Rattle.rare_base.specs.Reads.{ReadInTurn, ReadToEnd};
-ghost use Rattle.rare_check.specs.TermText.{constants};
+//! The run: it reads the files that the words give, has the proof checked, and writes the answer
+//! that `outcome` makes. It never writes a byte before the whole answer stands.
+
+ghost use Rattle.std.specs.Prelude.{◌≡◌, ℕ, ◌+◌, ◌-◌, ◌^◌, ◌<◌, ◌≤◌, List, [], ◌∷◌, length, None, IfOk, IfErr, OnOk};
+ghost use Rattle.rare_base.specs.Outside.{most_faults};
+ghost use Rattle.rare_base.specs.Reads.{most_file_bytes, ReadInTurn, ReadToEnd};
+ghost use Rattle.rare_check.specs.TermText.{declared_by};
+ghost use Rattle.rare_sort.specs.DeclaredSorts.{nothing_declared};
 ghost use Rattle.rare_check.specs.Stated.{stated, HaveIds};
-ghost use Rattle.rare_check.specs.Checking.{answer, Refuses, ValidAreTrue};
-ghost use Rattle.rare_base.specs.declared.answers.Place.{Place};
-ghost use Rattle.rare_base.specs.declared.answers.Reason.{Reason};
-ghost use Rattle.rare_cli.specs.declared.outcome.File.{File};
-ghost use Rattle.rare_cli.specs.WordForms.{Names, form_of, files_in};
-ghost use Rattle.rare_cli.specs.Outcomes.{Outcome, outcome_of, stop_line, stop_outcome};
-ghost use Rattle.rare_cli.specs.Causes.{library, sink, Allowed, Delivers, Takes, Cuts, Stops, Reports};
-ghost use Rattle.rare_cli.specs.Prepared.{outcome_in, Becomes, IsTextOf, IsProblemOf, IsReportOn, IsJudged, IsChecked};
+ghost use Rattle.rare_check.specs.Checking.{answer, Refuses};
+ghost use Rattle.rare_check.specs.Verdicts.{ValidAreTrue};
+ghost use Rattle.rare_cli.specs.WordForms.{files_in};
+ghost use Rattle.rare_cli.specs.Outcomes.{Outcome};
+ghost use Rattle.rare_cli.specs.Calls.{library, sink};
+ghost use Rattle.rare_cli.specs.Causes.{Allowed, Says, RefusesWords, AnswersTexts, EndsWith};
+ghost use Rattle.rare_cli.specs.inner.Prepared.{Delivers, outcome_in, Becomes, IsTextOf, IsProblemOf, IsReportOn, IsAnswerOn, IsChecked};
 
 use crate::outcome::{
     Answer, File, FileNames, Stop, answer_on, form, names_of, out_of_memory, read_fault, refused,
@@ -28,7 +31,7 @@ fn read_text<L: Library>(
     name: &[u8],
     file: File,
 ) -> Result<Text, Stop>
-    ensures text { IsTextOf (library (L.text files.old) (L.faults files.old) (L.faults files.new)) name.now file result }
+    ensures text { IsTextOf (library L.text L.faults files.old files.new) name.now file result }
     ensures texts { (w : List ℕ) → L.text files.new w ≡ L.text files.old w }
     ensures later { (w : List ℕ) → L.faults files.old w ≤ L.faults files.new w }
     ensures reads { ReadInTurn (L.reads files.old) (L.reads files.new) (name.now ∷ []) }
@@ -40,17 +43,18 @@ fn read_text<L: Library>(
     }
 }
 
-/// The problem that a file states, read into terms without symbols.
-fn read_problem_file<L: Library>(
+/// The problem that a file states, read into terms that have no declarations yet.
+fn read_problem_file<L: Library, T: Terms>(
     alloc: Global,
     files: &mut L,
     name: &[u8],
-    terms: &mut Plain,
+    terms: &mut T,
 ) -> Result<Problem, Stop>
-    requires { terms.old.symbols ≡ [] }
-    ensures ids { IfOk result (λ p. HaveIds (length terms.new.trees) p.rewrites) }
-    ensures symbols { IfOk result (λ p. terms.new.symbols ≡ constants p.scope) }
-    ensures problem { IsProblemOf (library (L.text files.old) (L.faults files.old) (L.faults files.new)) name.now terms.new.trees result }
+    requires { (T.state terms.old).declared ≡ nothing_declared }
+    ensures ids { IfOk result (λ p. HaveIds (length (T.state terms.new).trees) p.rewrites) }
+    ensures symbols { IfOk result (λ p. (T.state terms.new).declared ≡ declared_by p.scope) }
+    ensures problem { IsProblemOf (library L.text L.faults files.old files.new) name.now
+        (T.state terms.new).trees result }
     ensures texts { (w : List ℕ) → L.text files.new w ≡ L.text files.old w }
     ensures later { (w : List ℕ) → L.faults files.old w ≤ L.faults files.new w }
     ensures reads { ReadInTurn (L.reads files.old) (L.reads files.new) (name.now ∷ []) }
@@ -64,7 +68,7 @@ fn read_problem_file<L: Library>(
 }
 
 // The report of a checker on what is left of a proof.
-fn finish_with(mut checker: Checker<Plain>, proof: &[u8]) -> Result<Report, Fault>
+fn finish_with<T: Terms + Drop>(mut checker: Checker<T>, proof: &[u8]) -> Result<Report, Fault>
     requires { checker.left.fed + length proof.now ≤ 2 ^ 32 - 2 }
     ensures report { IfOk result (λ report. answer checker proof.now ≡ Ok report) }
     ensures refused { IfErr result (λ fault. Refuses fault (answer checker proof.now)) }
@@ -77,11 +81,16 @@ fn finish_with(mut checker: Checker<Plain>, proof: &[u8]) -> Result<Report, Faul
 }
 
 /// The report on a proof of a problem that was read into these terms.
-fn report_on(alloc: Global, terms: Plain, problem: Problem, proof: &[u8]) -> Result<Report, Stop>
-    requires ids { HaveIds (length terms.trees) problem.rewrites }
-    requires symbols { terms.symbols ≡ constants problem.scope }
-    requires short { length proof.now ≤ 2 ^ 28 }
-    ensures { IsReportOn (stated terms.trees problem) proof.now result }
+fn report_on<T: Terms + Drop>(
+    alloc: Global,
+    terms: T,
+    problem: Problem,
+    proof: &[u8],
+) -> Result<Report, Stop>
+    requires ids { HaveIds (length (T.state terms).trees) problem.rewrites }
+    requires symbols { (T.state terms).declared ≡ declared_by problem.scope }
+    requires short { length proof.now ≤ most_file_bytes }
+    ensures { IsReportOn (stated (T.state terms).trees problem) proof.now result }
 {
     match finish_with(Checker::new(alloc, terms, problem), proof) {
         Ok(report) => Ok(report),
@@ -90,11 +99,16 @@ fn report_on(alloc: Global, terms: Plain, problem: Problem, proof: &[u8]) -> Res
 }
 
 /// The answer on a proof of a problem that was read into these terms.
-fn judge(alloc: Global, terms: Plain, problem: Problem, proof: &[u8]) -> Result<Answer, Stop>
-    requires ids { HaveIds (length terms.trees) problem.rewrites }
-    requires symbols { terms.symbols ≡ constants problem.scope }
-    requires short { length proof.now ≤ 2 ^ 28 }
-    ensures { IsJudged (stated terms.trees problem) proof.now result }
+fn judge<T: Terms + Drop>(
+    alloc: Global,
+    terms: T,
+    problem: Problem,
+    proof: &[u8],
+) -> Result<Answer, Stop>
+    requires ids { HaveIds (length (T.state terms).trees) problem.rewrites }
+    requires symbols { (T.state terms).declared ≡ declared_by problem.scope }
+    requires short { length proof.now ≤ most_file_bytes }
+    ensures { IsAnswerOn (stated (T.state terms).trees problem) proof.now result }
 {
     let names = names_of(alloc, problem.rewrites.items())?;
     let report = report_on(alloc, terms, problem, proof)?;
@@ -103,10 +117,12 @@ fn judge(alloc: Global, terms: Plain, problem: Problem, proof: &[u8]) -> Result<
 
 /// The answer on the proof of a file for the problem of another.
 fn check<L: Library>(alloc: Global, names: FileNames<'_>, files: &mut L) -> Result<Answer, Stop>
-    ensures checked { IsChecked (library (L.text files.old) (L.faults files.old) (L.faults files.new)) (record { problem = names.entry.problem.now; proof = names.entry.proof.now }) result }
+    ensures checked { IsChecked (library L.text L.faults files.old files.new)
+        (record { problem = names.entry.problem.now; proof = names.entry.proof.now }) result }
     ensures texts { (w : List ℕ) → L.text files.new w ≡ L.text files.old w }
     ensures later { (w : List ℕ) → L.faults files.old w ≤ L.faults files.new w }
-    ensures reads { ReadInTurn (L.reads files.old) (L.reads files.new) (names.entry.problem.now ∷ names.entry.proof.now ∷ []) }
+    ensures reads { ReadInTurn (L.reads files.old) (L.reads files.new)
+        (names.entry.problem.now ∷ names.entry.proof.now ∷ []) }
 {
     let mut terms = Plain::new(alloc);
     let problem = read_problem_file(alloc, files, names.problem, &mut terms)?;
@@ -116,7 +132,8 @@ fn check<L: Library>(alloc: Global, names: FileNames<'_>, files: &mut L) -> Resu
 
 /// What is to be written for these words.
 fn prepare<L: Library>(alloc: Global, words: &Texts, files: &mut L) -> Result<Answer, Stop>
-    ensures allowed { Allowed (library (L.text files.old) (L.faults files.old) (L.faults files.new)) words.now (outcome_in result) }
+    ensures allowed { Allowed (library L.text L.faults files.old files.new) words.now
+        (outcome_in result) }
     ensures texts { (w : List ℕ) → L.text files.new w ≡ L.text files.old w }
     ensures later { (w : List ℕ) → L.faults files.old w ≤ L.faults files.new w }
     ensures reads { ReadInTurn (L.reads files.old) (L.reads files.new) (files_in words.now) }
@@ -128,7 +145,8 @@ fn prepare<L: Library>(alloc: Global, words: &Texts, files: &mut L) -> Result<An
 }
 
 fn deliver<S: Sink>(out: &mut S, bytes: &[u8], status: Status) -> Status
-    ensures { Delivers (record { text = bytes.now; status = status }) result (sink (S.written out.old) (S.written out.new) (S.faults out.old) (S.faults out.new)) }
+    ensures { Delivers (record { text = bytes.now; status = status }) result
+        (sink S.written S.faults out.old out.new) }
 {
     match put_whole(out, bytes) {
         Ok(()) => status,
@@ -138,7 +156,8 @@ fn deliver<S: Sink>(out: &mut S, bytes: &[u8], status: Status) -> Status
 
 /// Writes why there is no report. A line that wants memory gives way to the one that says so.
 fn tell<S: Sink>(alloc: Global, stop: Stop, out: &mut S) -> Status
-    ensures { (o : Outcome) × Becomes stop o × Delivers o result (sink (S.written out.old) (S.written out.new) (S.faults out.old) (S.faults out.new)) }
+    ensures { (o : Outcome) × Becomes stop o
+        × Delivers o result (sink S.written S.faults out.old out.new) }
 {
     match stop {
         Stop::BadWords => deliver(out, usage(), Status::BadWords),
@@ -157,8 +176,9 @@ fn tell<S: Sink>(alloc: Global, stop: Stop, out: &mut S) -> Status
 }
 
 fn run_all<L: Library, S: Sink>(alloc: Global, words: &Texts, files: &mut L, out: &mut S) -> Status
-    ensures ran { (o : Outcome) × Allowed (library (L.text files.old) (L.faults files.old) (L.faults files.new)) words.now o
-        × Delivers o result (sink (S.written out.old) (S.written out.new) (S.faults out.old) (S.faults out.new)) }
+    ensures ran { (o : Outcome)
+        × Allowed (library L.text L.faults files.old files.new) words.now o
+        × Delivers o result (sink S.written S.faults out.old out.new) }
     ensures texts { (w : List ℕ) → L.text files.new w ≡ L.text files.old w }
     ensures later { (w : List ℕ) → L.faults files.old w ≤ L.faults files.new w }
     ensures reads { ReadInTurn (L.reads files.old) (L.reads files.new) (files_in words.now) }
@@ -175,40 +195,39 @@ fn run_all<L: Library, S: Sink>(alloc: Global, words: &Texts, files: &mut L, out
 /// files are read whole, the problem first, and what is wrong with the problem comes before what is
 /// wrong with the proof. All of an answer stands before its first byte is written.
 pub fn run<L: Library, S: Sink>(alloc: Global, words: &Texts, files: &mut L, out: &mut S) -> Status
-    requires files { (w : List ℕ) → L.faults files.old w < 2 ^ 64 - 1 }
-    requires out { S.faults out.old < 2 ^ 64 - 1 }
-    // Exactly the words that are no form are bad words, unless a put failed.
-    ensures bad_words { (result ≡ Status.BadWords) ↔ ((form_of words.now ≡ None) × (S.faults out.new ≡ S.faults out.old)) }
-    // For bad words the usage line is written.
-    ensures usage { result ≡ Status.BadWords → Takes (sink (S.written out.old) (S.written out.new) (S.faults out.old) (S.faults out.new)) (stop_line Stop.BadWords) }
+    requires files { (w : List ℕ) → L.faults files.old w < most_faults }
+    requires out { S.faults out.old < most_faults }
+    // What each status says of the files, the words and what was written.
+    ensures says { Says (library L.text L.faults files.old files.new) words.now
+        (sink S.written S.faults out.old out.new) result }
+    // Words that are no form are bad words, unless a put failed.
+    ensures bad_words { RefusesWords words.now (sink S.written S.faults out.old out.new) result }
     // Of texts that are told, exactly their outcome, where no count rose.
-    ensures told { (names : Names) (problem proof : List ℕ) → form_of words.now ≡ Some names → L.text files.old names.problem ≡ Some problem → L.text files.old names.proof ≡ Some proof →
-        ((w : List ℕ) → L.faults files.new w ≡ L.faults files.old w) → S.faults out.new ≡ S.faults out.old → (result ≢ Status.Memory) →
-        (result ≡ (outcome_of problem proof).status) × (S.written out.new ≡ grown (S.written out.old) (outcome_of problem proof).text) }
-    // A report, only where the files may hold a problem and a proof with this report. Each rewrite that it calls valid is true.
-    ensures checked { ((result ≡ Status.AllGood) ⊎ (result ≡ Status.NotAll)) →
-        Reports (library (L.text files.old) (L.faults files.old) (L.faults files.new)) words.now (sink (S.written out.old) (S.written out.new) (S.faults out.old) (S.faults out.new)) result }
-    // A refused text, only where a file may hold a text with this first fault.
-    ensures refused { result ≡ Status.BadText → (file : File) × (place : Place) × (reason : Reason) ×
-        Stops (library (L.text files.old) (L.faults files.old) (L.faults files.new)) words.now (sink (S.written out.old) (S.written out.new) (S.faults out.old) (S.faults out.new)) (Stop.Refused file place reason) }
-    // Too long, only where this file may hold more than 2^28 bytes.
-    ensures too_long { result ≡ Status.TooLong → (file : File) ×
-        Stops (library (L.text files.old) (L.faults files.old) (L.faults files.new)) words.now (sink (S.written out.old) (S.written out.new) (S.faults out.old) (S.faults out.new)) (Stop.TooLong file) }
-    // A read fault, only where the count of this file's own name rose, and the files before it have readings.
-    ensures read_fault { result ≡ Status.ReadFault → (file : File) ×
-        Stops (library (L.text files.old) (L.faults files.old) (L.faults files.new)) words.now (sink (S.written out.old) (S.written out.new) (S.faults out.old) (S.faults out.new)) (Stop.ReadFault file) }
-    // A write fault, only where the sink's count rose, with a proper front of a text that was to be written.
-    ensures write_fault { result ≡ Status.WriteFault → (o : Outcome) × Allowed (library (L.text files.old) (L.faults files.old) (L.faults files.new)) words.now o
-        × Cuts (sink (S.written out.old) (S.written out.new) (S.faults out.old) (S.faults out.new)) o.text }
-    // Want of memory is free, and writes its line.
-    ensures memory { result ≡ Status.Memory → Takes (sink (S.written out.old) (S.written out.new) (S.faults out.old) (S.faults out.new)) (stop_line Stop.Memory) }
+    ensures told { AnswersTexts (library L.text L.faults files.old files.new) words.now
+        (sink S.written S.faults out.old out.new) result }
     // The texts of files stay.
     ensures texts { (w : List ℕ) → L.text files.new w ≡ L.text files.old w }
     // No count of failed reads falls.
     ensures later { (w : List ℕ) → L.faults files.old w ≤ L.faults files.new w }
-    // The reads are of the files that the words give, in turn: each byte once, of a file at most the first 2^28 + 1 bytes, and
-    // each file to its end before the next is opened.
+    // The reads are of the files that the words give, in turn: each byte once, of a file at most the
+    // first 2^28 + 1 bytes, and each file to its end before the next is opened.
     ensures reads { ReadInTurn (L.reads files.old) (L.reads files.new) (files_in words.now) }
 {
     run_all(alloc, words, files, out)
+}
+
+/// Runs the words after the program's name, and gives the number to end with, which is that of the
+/// run's status.
+pub fn exit_number<L: Library, S: Sink>(
+    alloc: Global,
+    words: &Texts,
+    files: &mut L,
+    out: &mut S,
+) -> u8
+    requires files { (w : List ℕ) → L.faults files.old w < most_faults }
+    requires out { S.faults out.old < most_faults }
+    ensures ends { EndsWith (library L.text L.faults files.old files.new) words.now
+        (sink S.written S.faults out.old out.new) result }
+{
+    run(alloc, words, files, out).number()
 }

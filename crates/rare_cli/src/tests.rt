@@ -1,12 +1,19 @@
-ghost use Rattle.std.specs.Prelude.{◌≡◌, [], ◌∷◌, IfOk};
-ghost use Rattle.rare_base.specs.Memory.{faults_of, put_faults};
-ghost use Rattle.rare_base.specs.Reads.{Added};
+//! Runs over texts in memory, one row for each status that they can show, and the reads of a run.
 
-use crate::run::run;
+ghost use Rattle.std.specs.Prelude.{◌≡◌, ◌<◌, ◌≤◌, [], ◌∷◌, length, IfOk};
+ghost use Rattle.rare_base.specs.Memory.{faults_of, put_faults};
+ghost use Rattle.rare_base.specs.Reads.{Added, most_file_bytes};
+ghost use Rattle.rare_check.specs.Stated.{HaveIds};
+ghost use Rattle.rare_check.specs.TermText.{constants};
+
+use crate::run::{exit_number, run};
+use crate::words::words_of;
 use rare_base::{
-    Failed, Library, MemoryLibrary, MemorySink, NamedText, NamedTexts, Sequence, Status, Text,
-    Texts,
+    Failed, Fault, Library, MemoryLibrary, MemorySink, NamedText, NamedTexts, Sequence, Status,
+    Text, Texts,
 };
+use rare_check::{Checker, Problem, Report, Verdict, read_problem};
+use rare_term::{Plain, Terms};
 use std::alloc::{AllocError, Global};
 use std::marker::Model;
 use std::test::Fail;
@@ -17,6 +24,12 @@ const ONE: &str = "(declare-const p Bool)(rewrite r1 p p)";
 
 const TWO: &str = "(declare-const p Bool)(declare-const q Bool)(rewrite r1 p q)";
 
+const THREE: &str = "(declare-const p Bool)(declare-const q Bool)\
+    (rewrite r1 p p)(rewrite r2 p q)(rewrite r3 (not q) (not q))";
+
+const FIRST_AND_THIRD: &str = "(step t1 (cl (= (not q) (not q))) :rule refl)\
+    (step t2 (cl (= p p)) :rule refl)(conclude r3 t1)(conclude r1 t2)";
+
 const PROVED: &str = "(step t1 (cl (= p p)) :rule refl)(conclude r1 t1)";
 
 const USAGE: &str =
@@ -25,67 +38,101 @@ const USAGE: &str =
 // A run over memory: the words, the two texts, the numbers of the reads and of the puts that fail, and
 // what must come of it.
 struct Case {
+    name: &'static str,
     words: &'static [&'static str],
     problem: &'static str,
     proof: &'static str,
     failed_reads: &'static [u64],
     failed_puts: &'static [u64],
     status: Status,
+    number: u8,
     written: &'static str,
 }
 
 const ROW: Case = Case {
+    name: "a rewrite that is concluded",
     words: CHECK,
     problem: ONE,
     proof: PROVED,
     failed_reads: &[],
     failed_puts: &[],
     status: Status::AllGood,
+    number: 0,
     written: "r1 valid\n",
 };
 
 const CASES: &[Case] = &[
     ROW,
     Case {
+        name: "a rewrite that is not concluded",
         proof: "",
         status: Status::NotAll,
+        number: 1,
         written: "r1 open\n",
         ..ROW
     },
     Case {
+        name: "three rewrites, the second not concluded",
+        problem: THREE,
+        proof: FIRST_AND_THIRD,
+        status: Status::NotAll,
+        number: 1,
+        written: "r1 valid\nr2 open\nr3 valid\n",
+        ..ROW
+    },
+    Case {
+        name: "no rewrite",
         problem: "",
         proof: "",
         written: "",
         ..ROW
     },
     Case {
+        name: "a step that is not valid",
         problem: TWO,
         proof: "(step t1 (cl (= p q)) :rule refl)",
         status: Status::NotAll,
+        number: 1,
         written: "invalid t1 NotEqual\n",
         ..ROW
     },
     Case {
+        name: "a proof with no reading",
         proof: "(step t1 (cl (= p |p",
         status: Status::BadText,
-        written: "refused proof 1:1 Unread\n",
+        number: 3,
+        written: "refused proof 1:19 OpenSymbol\n",
         ..ROW
     },
     Case {
+        name: "a byte that begins no expression",
+        problem: "(rewrite r1 |p|\n [ p)",
+        status: Status::BadText,
+        number: 3,
+        written: "refused problem 2:2 BadCharacter\n",
+        ..ROW
+    },
+    Case {
+        name: "put 3 fails",
         failed_puts: &[3],
         status: Status::WriteFault,
+        number: 5,
         written: "r1 valid",
         ..ROW
     },
     Case {
+        name: "read 2 fails",
         failed_reads: &[2],
         status: Status::ReadFault,
+        number: 4,
         written: "read fault problem\n",
         ..ROW
     },
     Case {
+        name: "a file that begins with two dashes",
         words: &["check", "-", "problem", "--proof"],
         status: Status::BadWords,
+        number: 2,
         written: USAGE,
         ..ROW
     },
@@ -117,16 +164,127 @@ fn words(alloc: Global, case: &Case) -> Result<Texts, AllocError> {
 }
 
 #[test]
-fn writes_what_the_words_ask_for(rt: HostRuntime) -> Result<(), Fail> {
+fn a_run_writes_what_the_words_ask_for(rt: HostRuntime) -> Result<(), Fail> {
     let alloc = rt.alloc();
-    for (row, case) in CASES.iter().enumerate() {
+    for case in CASES {
         let words = words(alloc, case)?;
         let mut files = library(alloc, case)?;
         let fail = Vec::from_slice(alloc, case.failed_puts)?;
         let mut out = MemorySink::new(alloc, 4, 256, fail)?;
         let status = run(alloc, &words, &mut files, &mut out);
-        assert_eq!(rt; status, case.status, "row {row}");
-        assert_eq!(rt; out.bytes(), case.written.as_bytes(), "row {row}");
+        assert_eq!(rt; status, case.status, "{}", case.name);
+        assert_eq!(rt; out.bytes(), case.written.as_bytes(), "{}", case.name);
+    }
+    Ok(())
+}
+
+#[test]
+fn the_program_ends_with_the_number_of_the_status(rt: HostRuntime) -> Result<(), Fail> {
+    let alloc = rt.alloc();
+    for case in CASES {
+        let words = words(alloc, case)?;
+        let mut files = library(alloc, case)?;
+        let fail = Vec::from_slice(alloc, case.failed_puts)?;
+        let mut out = MemorySink::new(alloc, 4, 256, fail)?;
+        let number = exit_number(alloc, &words, &mut files, &mut out);
+        assert_eq!(rt; number, case.number, "{}", case.name);
+    }
+    Ok(())
+}
+
+// A proof of so many steps by `refl`, the last of which is concluded.
+fn proof_of_steps(alloc: Global, count: u32) -> Result<Text, AllocError> {
+    let mut proof = Text::new(alloc);
+    for k in 0..count {
+        let step = format!(in alloc; "(step t{k} (cl (= p p)) :rule refl)\n")?;
+        proof.append(step.as_bytes())?;
+    }
+    let last = count.saturating_sub(1);
+    let conclusion = format!(in alloc; "(conclude r1 t{last})\n")?;
+    proof.append(conclusion.as_bytes())?;
+    Ok(proof)
+}
+
+#[test]
+fn a_proof_of_several_mib_is_read_and_checked(rt: HostRuntime) -> Result<(), Fail> {
+    let alloc = rt.alloc();
+    let proof = proof_of_steps(alloc, 100_000)?;
+    assert!(rt; 3 << 20 < proof.bytes().len());
+    let mut texts = NamedTexts::new(alloc);
+    texts.push(named(alloc, "problem", ONE)?)?;
+    texts.push(NamedText {
+        name: Text::of(alloc, b"proof")?,
+        bytes: proof,
+    })?;
+    let mut files = MemoryLibrary::new(texts, 1 << 12, Vec::new(alloc));
+    let mut out = MemorySink::new(alloc, 256, 256, Vec::new(alloc))?;
+    let status = run(alloc, &words(alloc, &ROW)?, &mut files, &mut out);
+    assert_eq!(rt; status, Status::AllGood);
+    assert_eq!(rt; out.bytes(), b"r1 valid\n".as_slice());
+    Ok(())
+}
+
+// The report of a checker that is fed a proof in pieces of so many bytes.
+fn report_in_pieces(
+    alloc: Global,
+    terms: Plain,
+    problem: Problem,
+    proof: &[u8],
+    piece: usize,
+) -> Result<Report, Fault>
+    requires some { 0 < piece }
+    requires ids { HaveIds (length terms.trees) problem.rewrites }
+    requires symbols { terms.symbols ≡ constants problem.scope }
+    requires short { length proof.now ≤ most_file_bytes }
+{
+    let mut checker = Checker::new(alloc, terms, problem);
+    let mut at = 0;
+    while at < proof.len() {
+        let end = proof.len().min(at.saturating_add(piece));
+        checker.feed(&proof[at..end])?;
+        at = end;
+    }
+    checker.finish()
+}
+
+// Whether a report says of one rewrite that it is valid.
+fn is_one_valid(report: &Report) -> bool {
+    match report {
+        Report::Checked { verdicts, .. } => verdicts.items() == [Verdict::Valid].as_slice(),
+        Report::Invalid { .. } => false,
+    }
+}
+
+#[test]
+fn a_thousand_steps_are_checked_in_small_pieces(rt: HostRuntime) -> Result<(), Fail> {
+    let alloc = rt.alloc();
+    let proof = proof_of_steps(alloc, 1000)?;
+    assert!(rt; proof.bytes().len() <= 1 << 20);
+    for piece in [1, 7, 4096] {
+        assert!(rt; 0 < piece);
+        let mut terms = Plain::new(alloc);
+        let Ok(problem) = read_problem(alloc, ONE.as_bytes(), &mut terms) else {
+            return Err(Fail::from("the problem is read"));
+        };
+        let Ok(report) = report_in_pieces(alloc, terms, problem, proof.bytes(), piece) else {
+            return Err(Fail::from("the proof is read"));
+        };
+        assert!(rt; is_one_valid(&report), "pieces of {piece}");
+    }
+    Ok(())
+}
+
+#[test]
+fn the_words_follow_the_programs_name(rt: HostRuntime) -> Result<(), Fail> {
+    let alloc = rt.alloc();
+    let mut args = Vec::new(alloc);
+    for arg in ["rare", "check", "-", "p", "q"] {
+        args.push(arg.to_string(alloc)?)?;
+    }
+    let words = words_of(alloc, args.into_iter())?;
+    assert_eq!(rt; words.len(), 4);
+    for (word, want) in words.items().iter().zip(["check", "-", "p", "q"]) {
+        assert_eq!(rt; word.bytes(), want.as_bytes());
     }
     Ok(())
 }

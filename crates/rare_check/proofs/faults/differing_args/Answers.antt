@@ -1,13 +1,14 @@
 use Rattle.std.proofs.Common.{◌<◌, ◌∙◌, [], ◌++◌, sym, length, arith}
-use Rattle.rare_term.specs.declared.tree.Head.TheVariants.{True}
-use Rattle.rare_term.specs.Trees.{tree_at, args_of, made}
-use Rattle.rare_check.specs.Judging.{unless_same}
+use Rattle.rare_sort.specs.declared.head.Head.TheVariants.{True}
+use Rattle.rare_sort.specs.Ids.{tree_at}
+use Rattle.rare_sort.specs.Trees.{args_of, node}
+use Rattle.rare_check.specs.inner.Judging.{unless_same}
 use Rattle.rare_check.proofs.Judgements.{differing-more}
 use Rattle.rare_check.proofs.faults.differing_args.Goals as goal
 
 pub loop-k-preserved : goal.loop-k-preserved
 loop-k-preserved g c =
-    let ts = g.T.Terms.trees c.args.terms.now in
+    let ts = (g.T.Terms.state c.args.terms.now).trees in
     let xs = args_of (tree_at ts c.args.sides.left.0) in
     let ys = args_of (tree_at ts c.args.sides.right.0) in
     let lt : c.loop-k.k < length xs = omega arith in
@@ -15,6 +16,6 @@ loop-k-preserved g c =
     record {
       pairs =
           pushed.pairs ∙ (λ i. c.loop-k.invariant.pairs i ++ unless_same (c.arg-left.ensures.tree i, c.arg-right.ensures.tree i))
-          ∙ sym (differing-more xs ys c.loop-k.k (made True []) c.requires.same lt);
+          ∙ sym (differing-more xs ys c.loop-k.k (node True [] []) c.requires.same lt);
       ids = pushed.ids;
     }

@@ -4,8 +4,8 @@ use Rattle.std.proofs.lemmas.List.Elements.{All-push}
 use Rattle.rare_sexpr.specs.Tree.{items_of}
 use Rattle.rare_check.specs.declared.judged.Sides.{Sides}
 use Rattle.rare_check.specs.Forms.{texts_in}
-use Rattle.rare_check.specs.Judging.{earlier_of, pairs_at, AreAllIds}
-use Rattle.rare_check.specs.CommandsRead.{pair_at, premise_ids, SidesAreIds}
+use Rattle.rare_check.specs.inner.Judging.{earlier_of, pairs_at, AreAllIds}
+use Rattle.rare_check.specs.inner.CommandsRead.{pair_at, premise_ids, SidesAreIds}
 use Rattle.rare_check.specs.Steps.{premises_of}
 use Rattle.rare_check.proofs.CommandForms.{text_at}
 use Rattle.rare_check.proofs.Judgements.{premises_more, premises_stop}

@@ -1,7 +1,7 @@
 use Rattle.std.proofs.Common.{◌≡◌, ℕ, List, take, Some}
-use Rattle.rare_term.specs.declared.tree.Tree.{Tree}
+use Rattle.rare_sort.specs.declared.tree.Tree.{Tree}
 use Rattle.rare_check.specs.Forms.{texts_in}
-use Rattle.rare_check.specs.Judging.{earlier_of, pairs_at, AreAllIds}
+use Rattle.rare_check.specs.inner.Judging.{earlier_of, pairs_at, AreAllIds}
 use Rattle.rare_check.specs.Steps.{premises_of}
 use Rattle.rare_check.proofs.faults.sides_of_premises.Given as goal
 

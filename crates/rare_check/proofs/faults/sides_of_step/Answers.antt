@@ -1,6 +1,6 @@
 use Rattle.std.proofs.Common.{◌∙◌, sym, ap}
 use Rattle.std.specs.Option.{option_map}
-use Rattle.rare_check.specs.CommandsRead.{pair_at}
+use Rattle.rare_check.specs.inner.CommandsRead.{pair_at}
 use Rattle.rare_check.proofs.Judgements.{named_none, named_some, ids_at}
 use Rattle.rare_check.proofs.faults.sides_of_step.Goals as goal
 

@@ -1,6 +1,6 @@
 use Rattle.std.proofs.Common.{◌≡◌, ◌∷◌, [], ◌++◌, ◌∙◌, sym, ap, map, Some, length, arith, subst, List}
 use Rattle.rare_sexpr.specs.Tree.{items_of, text_of}
-use Rattle.rare_term.specs.Trees.{tree_at, Extends}
+use Rattle.rare_sort.specs.Ids.{tree_at, Extends}
 use Rattle.rare_check.specs.Stated.{stated, stated_rewrite, HaveIds}
 use Rattle.rare_check.specs.ProblemText.{is_statement}
 use Rattle.rare_check.proofs.Growing.{tree_kept, longer, extends_on}
@@ -10,15 +10,15 @@ use Rattle.rare_check.proofs.reading.with_statement.Goals as goal
 
 pub returns-then-not-is_statement_of-clause-made : goal.returns-then-not-is_statement_of-clause-made
 returns-then-not-is_statement_of-clause-made g c =
-    let ts = g.T.Terms.trees c.args.terms.now in
+    let ts = (g.T.Terms.state c.args.terms.now).trees in
     let name = ap (λ ns. is_statement ns (g.E.Expr.tree c.item.result.now) (g.E.Expr.tree c.item-name.result.now)) (names_stated ts c.args.problem.rewrites) ∙ sym c.is_statement_of.ensures ∙ c.if-not-is_statement_of.true in
     states_none (stated ts c.args.problem) (items_of (g.E.Expr.tree c.args.e.now)) (g.E.Expr.tree c.item.result.now) (g.E.Expr.tree c.item-name.result.now) c.requires.four c.item.ensures c.item-name.ensures name
 
 pub returns-clause-made : goal.returns-clause-made
 returns-clause-made g c =
-    let old = g.T.Terms.trees c.args.terms.now in
-    let middle = g.T.Terms.trees c.read_term.new.terms in
-    let new = g.T.Terms.trees c.read_term-2.new.terms in
+    let old = (g.T.Terms.state c.args.terms.now).trees in
+    let middle = (g.T.Terms.state c.read_term.new.terms).trees in
+    let new = (g.T.Terms.state c.read_term-2.new.terms).trees in
     let first : Extends old middle = c.in_ok-left.ensures.grows in
     let second : Extends middle new = c.in_ok-right.ensures.grows in
     let all : Extends old new = extends_on old middle new first second in

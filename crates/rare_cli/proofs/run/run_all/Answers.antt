@@ -1,4 +1,4 @@
-use Rattle.rare_cli.specs.Prepared.{answer_outcome}
+use Rattle.rare_cli.specs.inner.Prepared.{answer_outcome}
 use Rattle.rare_cli.proofs.Runs.{becomes_allowed}
 use Rattle.rare_cli.proofs.run.run_all.Goals as goal
 

@@ -1,8 +1,9 @@
 use Rattle.std.proofs.Common.{◌≡◌, ◌∙◌, [], refl, sym, ap, subst, None}
 use Rattle.std.proofs.lemmas.Result.{err_from_is_err_and}
 use Rattle.rare_sexpr.specs.Streams.{commands_left}
-use Rattle.rare_check.specs.Checking.{answer_from, unless_stopped, answer, ValidAreTrue}
-use Rattle.rare_check.specs.Progress.{progress_of}
+use Rattle.rare_check.specs.Checking.{answer_from, unless_stopped, answer}
+use Rattle.rare_check.specs.Verdicts.{ValidAreTrue}
+use Rattle.rare_check.specs.inner.Progress.{progress_of}
 use Rattle.rare_check.specs.Stated.{stated}
 use Rattle.rare_check.specs.declared.report.Report.{Report}
 use Rattle.rare_check.specs.ProblemText.{StatedProblem}
@@ -12,7 +13,7 @@ use Rattle.rare_check.proofs.checker.Checker.finish.Goals as goal
 pub returns-in_err-take_commands-clause-refused : goal.returns-in_err-take_commands-clause-refused
 returns-in_err-take_commands-clause-refused g c =
     let i = c.self.inside in
-    let ts = g.T.Terms.trees i.terms in
+    let ts = (g.T.Terms.state i.terms).trees in
     let old = c.args.self in
     let none : old.stopped ≡ None = sym (ap (λ v. v.stopped) c.self.view_is) ∙ c.in_default.is in
     let same =
@@ -26,11 +27,11 @@ returns-in_err-take_commands-clause-refused g c =
 pub returns-in-Ok-clause-valid : goal.returns-in-Ok-clause-valid
 returns-in-Ok-clause-valid g c =
     let i = c.self.inside in
-    let old = g.T.Terms.trees i.terms in
-    let new = g.T.Terms.trees c.take_commands.new.terms in
+    let old = (g.T.Terms.state i.terms).trees in
+    let new = (g.T.Terms.state c.take_commands.new.terms).trees in
     let taken = c.in_ok-take_commands.ensures in
     let held = taken.held in
-    let valid = valid_true (g.T.Terms.symbols c.take_commands.new.terms) (stated new i.problem) (progress_of new c.take_commands.new.judged) held.names held.sound in
+    let valid = valid_true (g.T.Terms.state c.take_commands.new.terms).declared (stated new i.problem) (progress_of new c.take_commands.new.judged) held.names held.sound in
     let P : StatedProblem → Type 0 = λ q. ValidAreTrue q c.in-Ok.report in
     let R : Report → Type 0 = λ r. ValidAreTrue (stated new i.problem) r in
     subst P (taken.problem ∙ ap (λ v. v.problem) c.self.view_is) (subst R (sym (c.in-Ok.ensures new)) valid)

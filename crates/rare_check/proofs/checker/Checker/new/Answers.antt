@@ -8,4 +8,4 @@ pub returns-clause-held : goal.returns-clause-held
 returns-clause-held g c = search rules
 
 pub returns-clause-whole : goal.returns-clause-whole
-returns-clause-whole g c proof = ap (λ x. answer x proof) (returns-clause-held g c) ∙ answer_start (stated (g.T.Terms.trees c.args.terms) c.args.problem) proof
+returns-clause-whole g c proof = ap (λ x. answer x proof) (returns-clause-held g c) ∙ answer_start (stated (g.T.Terms.state c.args.terms).trees c.args.problem) proof

@@ -1,7 +1,7 @@
 use Rattle.std.proofs.Common.{◌≡◌, ◌∙◌, ◌++◌, sym, ap, append_assoc, false, true}
 use Rattle.rare_sexpr.specs.Streams.{commands_left, unless_refused}
 use Rattle.rare_check.specs.Checking.{answer_from, unless_stopped, answer}
-use Rattle.rare_check.specs.Progress.{progress_of}
+use Rattle.rare_check.specs.inner.Progress.{progress_of}
 use Rattle.rare_check.specs.Stated.{stated}
 use Rattle.rare_check.proofs.Answering.{refused_on}
 use Rattle.rare_check.proofs.checker.Checker.take.Goals as goal
@@ -9,7 +9,7 @@ use Rattle.rare_check.proofs.checker.Checker.take.Goals as goal
 pub returns-clause-refused : goal.returns-clause-refused
 returns-clause-refused g c =
     let i = c.self.inside in
-    let ts = g.T.Terms.trees i.terms in
+    let ts = (g.T.Terms.state i.terms).trees in
     let old = c.args.self.now in
     let fed = c.in-Ok.ensures.ok in
     refused_on c.take_commands.result (λ more. answer_from (stated ts i.problem) (progress_of ts i.judged) (commands_left c.feed.new.self more)) (λ rest. answer old (c.args.bytes.now ++ rest))

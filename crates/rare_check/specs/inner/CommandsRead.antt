@@ -1,8 +1,8 @@
 -- The commands of a proof as they were read, by the trees of their terms.
 use Rattle.std.specs.Prelude.{◌≡◌, ℕ, ◌<◌, List, [], ◌∷◌, length, Option, Some, None, Result, Ok, Err}
 use Rattle.std.specs.Borrow.{Bor}
-use Rattle.rare_term.specs.declared.tree.Tree.{Tree}
-use Rattle.rare_term.specs.Trees.{tree_at}
+use Rattle.rare_sort.specs.declared.tree.Tree.{Tree}
+use Rattle.rare_sort.specs.Ids.{tree_at}
 use Rattle.rare_check.specs.declared.judged.Sides.{Sides}
 use Rattle.rare_check.specs.declared.commands.ReadStep.{ReadStep}
 use Rattle.rare_check.specs.declared.commands.ReadCommand.{ReadCommand}
@@ -12,7 +12,7 @@ use Rattle.rare_check.specs.ProofText.{ProofCommand, StatedStep, Step, Conclude,
 use Rattle.rare_check.specs.declared.steps.StepRule.{StepRule}
 use Rattle.rare_sexpr.specs.declared.tree.Sexpr.{Sexpr}
 use Rattle.rare_check.specs.Forms.{texts_in}
-use Rattle.rare_check.specs.Answered.{Stops}
+use Rattle.rare_check.specs.inner.Answered.{Stops}
 
 abbrev pub pair_at : List Tree → Sides → Tree × Tree
 pair_at ts s = (tree_at ts s.left.0, tree_at ts s.right.0)

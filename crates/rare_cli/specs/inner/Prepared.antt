@@ -1,20 +1,23 @@
 -- What the parts of a run give to the next.
-use Rattle.std.specs.Prelude.{◌≡◌, ℕ, ◌^◌, ◌≤◌, ◌⊎◌, List, length, Result, Ok, Err}
+use Rattle.std.specs.Prelude.{◌≡◌, ℕ, ◌≤◌, ◌⊎◌, List, length, Result, Ok, Err}
 use Rattle.rare_base.specs.declared.outside.ReadError.{ReadError}
 use Rattle.rare_base.specs.declared.outside.ReadError.TheVariants as read
 use Rattle.rare_base.specs.declared.answers.Fault.{Fault}
 use Rattle.rare_base.specs.declared.answers.Fault.TheVariants as fault
+use Rattle.rare_base.specs.declared.answers.Status.{Status}
+use Rattle.rare_base.specs.declared.answers.Status.TheVariants as status
 use Rattle.rare_base.specs.Outside.{Rose}
+use Rattle.rare_base.specs.Reads.{most_file_bytes}
 use Rattle.rare_check.specs.declared.report.Report.{Report}
-use Rattle.rare_term.specs.declared.tree.Tree.{Tree}
+use Rattle.rare_sort.specs.declared.tree.Tree.{Tree}
 use Rattle.rare_check.specs.declared.problem.Problem.{Problem}
 use Rattle.rare_check.specs.Stated.{stated}
 use Rattle.rare_check.specs.ProblemText.{StatedProblem, problem_of}
-use Rattle.rare_check.specs.Verdicts.{checked}
-use Rattle.rare_check.specs.Checking.{ValidAreTrue}
+use Rattle.rare_check.specs.Verdicts.{checked, ValidAreTrue}
 use Rattle.rare_cli.specs.WordForms.{Names}
 use Rattle.rare_cli.specs.Outcomes.{Outcome, stop_outcome, report_outcome}
-use Rattle.rare_cli.specs.Causes.{Files, IsQuiet, Tells, IsLong, ReadsAs, HasCause, IsReport}
+use Rattle.rare_cli.specs.Calls.{Files, IsQuiet, Tells, Written, Takes, Cuts}
+use Rattle.rare_cli.specs.Causes.{IsLong, ReadsAs, HasStopCause, IsReport}
 use Rattle.rare_cli.specs.declared.outcome.File.{File}
 use Rattle.rare_cli.specs.declared.outcome.File.TheVariants as file
 use Rattle.rare_cli.specs.declared.outcome.Stop.{Stop}
@@ -48,7 +51,7 @@ Becomes Memory o = o ≡ stop_outcome Memory
 
 -- the text of a file, or why it can't be read
 abbrev pub IsTextOf : Files → List ℕ → File → Result (List ℕ) Stop → Type 0
-IsTextOf files name file (Ok text) = IsQuiet files × Tells (files.told name) text × (length text ≤ 2 ^ 28)
+IsTextOf files name file (Ok text) = IsQuiet files × Tells (files.told name) text × (length text ≤ most_file_bytes)
 IsTextOf files name file (Err BadWords) = ⊥
 IsTextOf files name file (Err (ReadFault other)) = (other ≡ file) × Rose (files.before name) (files.after name)
 IsTextOf files name file (Err (TooLong other)) = (other ≡ file) × IsQuiet files × IsLong (files.told name)
@@ -75,11 +78,16 @@ IsReportOn p proof (Err (Refused other place reason)) = (other ≡ file.Proof) �
 IsReportOn p proof (Err Memory) = Unit {0}
 
 -- the answer on a proof of a problem, or why there is none
-abbrev pub IsJudged : StatedProblem → List ℕ → Result Answer Stop → Type 0
-IsJudged p proof (Ok a) = (report : Report) × IsReportOn p proof (Ok report) × (answer_outcome a ≡ report_outcome p report)
-IsJudged p proof (Err stop) = IsReportOn p proof (Err stop)
+abbrev pub IsAnswerOn : StatedProblem → List ℕ → Result Answer Stop → Type 0
+IsAnswerOn p proof (Ok a) = (report : Report) × IsReportOn p proof (Ok report) × (answer_outcome a ≡ report_outcome p report)
+IsAnswerOn p proof (Err stop) = IsReportOn p proof (Err stop)
 
 -- the answer over these files, or why there is none
 abbrev pub IsChecked : Files → Names → Result Answer Stop → Type 0
 IsChecked files names (Ok a) = (p : StatedProblem) × (report : Report) × IsReport files names p report × (answer_outcome a ≡ report_outcome p report)
-IsChecked files names (Err stop) = HasCause files names stop
+IsChecked files names (Err stop) = HasStopCause files names stop
+
+-- the sink took the whole outcome, or a put failed
+pub data Delivers (o : Outcome) (result : Status) (out : Written) : Type 0 where
+  whole : result ≡ o.status → Takes out o.text → Delivers o result out
+  cut : result ≡ status.WriteFault → Cuts out o.text → Delivers o result out

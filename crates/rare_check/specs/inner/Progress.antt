@@ -1,20 +1,15 @@
 -- How far a proof has come after some commands, and after one more.
 use Rattle.std.specs.Prelude.{ℕ, nat_eq, List, [], ◌∷◌, ◌++◌, Option, Some, None, if◌then◌else◌}
 use Rattle.std.specs.List.{list_any}
-use Rattle.rare_term.specs.declared.tree.Tree.{Tree}
+use Rattle.rare_sort.specs.declared.tree.Tree.{Tree}
 use Rattle.rare_check.specs.declared.judged.Judged.{Judged}
 use Rattle.rare_check.specs.declared.steps.StepFault.{StepFault}
 use Rattle.rare_check.specs.ProblemText.{StatedProblem, StatedRewrite}
 use Rattle.rare_check.specs.ProofText.{ProofCommand, Step, Conclude}
 use Rattle.rare_check.specs.Steps.{Equation, rewrite_place}
 use Rattle.rare_check.specs.Verdicts.{Bad, fault_of, name_of, equations_of}
-use Rattle.rare_check.specs.Judging.{earlier_of, bad_in}
-
--- the equations that are concluded, the places of the rewrites that are, and the first command that is not valid
-pub record Progress : Type 0 where
-  pub earlier : List Equation
-  pub concluded : List ℕ
-  pub bad : Option Bad
+use Rattle.rare_check.specs.Checking.{Progress}
+use Rattle.rare_check.specs.inner.Judging.{earlier_of, bad_in}
 
 abbrev pub progress_of : List Tree → Judged → Progress
 progress_of ts j = record { earlier = earlier_of ts j; concluded = j.concluded.keys; bad = bad_in j }

@@ -1,12 +1,12 @@
 -- What the commands of a proof came to, by the trees of its terms.
 use Rattle.std.specs.Prelude.{◌≡◌, ℕ, List, [], ◌∷◌, length, map, All, Option, option_map, if◌then◌else◌}
-use Rattle.rare_term.specs.declared.tree.Tree.{Tree}
-use Rattle.rare_term.specs.Trees.{tree_at}
-use Rattle.rare_term.specs.SameTrees.{tree_eq}
+use Rattle.rare_sort.specs.declared.tree.Tree.{Tree}
+use Rattle.rare_sort.specs.Ids.{tree_at}
+use Rattle.rare_sort.specs.Sameness.{tree_eq}
 use Rattle.rare_check.specs.declared.judged.Sides.{Sides}
 use Rattle.rare_check.specs.declared.judged.BadCommand.{BadCommand}
 use Rattle.rare_check.specs.declared.judged.Judged.{Judged}
-use Rattle.rare_check.specs.CommandsRead.{pair_at, SidesAreIds}
+use Rattle.rare_check.specs.inner.CommandsRead.{pair_at, SidesAreIds}
 use Rattle.rare_check.specs.Steps.{Equation}
 use Rattle.rare_check.specs.Verdicts.{Bad}
 

@@ -1,0 +1,51 @@
+-- Where each verdict is valid, each rewrite of the problem is true.
+use Rattle.std.proofs.Common.{◌≡◌, ℕ, zero, suc, Bool, true, false, ◌&&◌, List, [], ◌∷◌, Option, Some, None, Result, Ok, Err, refl, sym, ap, subst}
+use Rattle.std.specs.Prelude.{slice_get}
+use Rattle.std.specs.List.{list_all, list_any}
+use Rattle.rare_base.specs.Answers.{Refusal}
+use Rattle.rare_check.specs.declared.report.Report.TheVariants.{Checked}
+use Rattle.rare_check.specs.declared.report.Verdict.{Verdict}
+use Rattle.rare_check.specs.declared.report.Verdict.TheVariants.{Valid, Missing}
+use Rattle.rare_check.specs.ProblemText.{StatedProblem, StatedRewrite}
+use Rattle.rare_check.specs.ProofText.{ProofCommand, proof_of}
+use Rattle.rare_check.specs.Verdicts.{Bad, first_bad, concludes, verdict_by, verdicts_from, report_by, report_of, on_proof, checked, ValidAreTrue}
+use Rattle.rare_cli.specs.Outcomes.{is_valid}
+use Rattle.rare_cli.specs.Causes.{AllAreTrue}
+
+both_true : (a b : Bool) → (a && b) ≡ true → (a ≡ true) × (b ≡ true)
+both_true true b e = (refl, e)
+both_true false b e = absurd cc
+
+valid_verdict : (v : Verdict) → is_valid v ≡ true → v ≡ Valid
+valid_verdict Valid e = refl
+valid_verdict Missing e = absurd cc
+
+-- where all verdicts are valid, each rewrite has the verdict valid
+all_valid : (rewrites : List StatedRewrite) (commands : List ProofCommand) (k : ℕ) (rs : List StatedRewrite) →
+    list_all is_valid (verdicts_from rewrites commands k rs) ≡ true → (j : ℕ) (r : StatedRewrite) → slice_get rs j ≡ Some r →
+    slice_get (verdicts_from rewrites commands k rs) j ≡ Some Valid
+all_valid rewrites commands k [] e j r at = absurd cc
+all_valid rewrites commands k (x ∷ xs) e zero r at =
+    let v = verdict_by (list_any (concludes rewrites k) commands) in
+    ap Some (valid_verdict v (both_true (is_valid v) _ e).0)
+all_valid rewrites commands k (x ∷ xs) e (suc j) r at =
+    let v = verdict_by (list_any (concludes rewrites k) commands) in
+    all_valid rewrites commands (suc k) xs (both_true (is_valid v) _ e).1 j r at
+
+verdicts_in : (bad : Option Bad) (vs verdicts : List Verdict) (trusted : List ℕ) → report_by bad vs ≡ Checked verdicts trusted → vs ≡ verdicts
+verdicts_in None vs verdicts trusted e = cc
+verdicts_in (Some bad) vs verdicts trusted e = absurd cc
+
+pub all_true : (p : StatedProblem) (text : List ℕ) (verdicts : List Verdict) (trusted : List ℕ) → checked p text ≡ Ok (Checked verdicts trusted) →
+    list_all is_valid verdicts ≡ true → ValidAreTrue p (Checked verdicts trusted) → AllAreTrue p
+all_true p text verdicts trusted is valid true_where = by (proof_of p text) is
+  where
+    by : (read : Result (List ProofCommand) Refusal) → on_proof (report_of p) read ≡ Ok (Checked verdicts trusted) → AllAreTrue p
+    by (Err fault) e = absurd cc
+    by (Ok commands) e =
+        let report : report_of p commands ≡ Checked verdicts trusted = cc in
+        let same : verdicts_from p.rewrites commands 0 p.rewrites ≡ verdicts = verdicts_in (first_bad p [] commands) _ verdicts trusted report in
+        λ k r at.
+        let P : List Verdict → Type 0 = λ vs. list_all is_valid vs ≡ true in
+        let Q : List Verdict → Type 0 = λ vs. slice_get vs k ≡ Some Valid in
+        true_where k r at (subst Q same (all_valid p.rewrites commands 0 p.rewrites (subst P (sym same) valid) k r at))
