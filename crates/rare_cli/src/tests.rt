@@ -4,7 +4,7 @@ ghost use Rattle.std.specs.Prelude.{◌≡◌, ◌<◌, ◌≤◌, [], ◌∷◌
 ghost use Rattle.rare_base.specs.Memory.{faults_of, put_faults};
 ghost use Rattle.rare_base.specs.Reads.{Added, most_file_bytes};
 ghost use Rattle.rare_check.specs.Stated.{HaveIds};
-ghost use Rattle.rare_check.specs.TermText.{constants};
+ghost use Rattle.rare_check.specs.TermText.{declared_by};
 
 use crate::run::{exit_number, run};
 use crate::words::words_of;
@@ -225,16 +225,16 @@ fn a_proof_of_several_mib_is_read_and_checked(rt: HostRuntime) -> Result<(), Fai
 }
 
 // The report of a checker that is fed a proof in pieces of so many bytes.
-fn report_in_pieces(
+fn report_in_pieces<T: Terms + Drop>(
     alloc: Global,
-    terms: Plain,
+    terms: T,
     problem: Problem,
     proof: &[u8],
     piece: usize,
 ) -> Result<Report, Fault>
     requires some { 0 < piece }
-    requires ids { HaveIds (length terms.trees) problem.rewrites }
-    requires symbols { terms.symbols ≡ constants problem.scope }
+    requires ids { HaveIds (length (T.state terms).trees) problem.rewrites }
+    requires symbols { (T.state terms).declared ≡ declared_by problem.scope }
     requires short { length proof.now ≤ most_file_bytes }
 {
     let mut checker = Checker::new(alloc, terms, problem);
