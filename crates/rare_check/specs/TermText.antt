@@ -70,7 +70,7 @@ list_term names [] = None
 list_term names (head ∷ args) = applied_to names (operator_at head.0) args
 
 abbrev pub term_step : List (List ℕ) → Step (Option Tree)
-term_step names place kind text items = if is_symbol_kind kind then named names text else list_term names items
+term_step names e items = if is_symbol_kind (kind_of e) then named names (text_of e) else list_term names items
 
 -- the term that an expression spells, over the declared names, or none
 abbrev pub term_at : List (List ℕ) → Sexpr → Option Tree

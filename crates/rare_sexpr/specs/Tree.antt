@@ -56,15 +56,15 @@ abbrev mutual
   depths end_of-Sexpr = 0
   depths (more_of-Sexpr e rest) = max (depth e) (depths rest)
 
--- what one expression gives, from its parts, and from each item with what that gives
+-- what one expression gives, from itself, and from each of its items with what that gives
 abbrev pub Step {ℓ} : Type ℓ → Type ℓ
-Step A = Place → Kind → List ℕ → List (Sexpr × A) → A
+Step A = Sexpr → List (Sexpr × A) → A
 
 -- a function of a whole expression by one step
 abbrev mutual
   pub go_down {ℓ} : (A : Type ℓ) → Step A → Sexpr → A
-  go_down A step (Atom place k text) = step place (kind_of_atom k) text []
-  go_down A step (List' place shape row) = step place kind.List [] (go_along A step row)
+  go_down A step (Atom place k text) = step (Atom place k text) []
+  go_down A step (List' place shape row) = step (List' place shape row) (go_along A step row)
 
   pub go_along {ℓ} : (A : Type ℓ) → Step A → {m : _} → Row_of-Sexpr m → List (Sexpr × A)
   go_along A step end_of-Sexpr = []
