@@ -1,8 +1,9 @@
 #!/bin/sh
 # Counts the instructions that `check` takes for a byte of its proof, by callgrind: on a text of blanks
-# and comments, on one of steps with names of a hundred bytes, and on one of short steps. From each
-# count that of a proof without bytes is taken away. Needs valgrind, awk and mktemp; ends with status 0
-# and a word where valgrind is missing.
+# and comments, on one of short steps, and on the names of steps. From the first two counts that of a
+# proof without bytes is taken away, and from that of steps with names of a hundred bytes that of as many
+# steps with names of eight. Needs valgrind, awk and mktemp; ends with status 0 and a word where valgrind
+# is missing.
 if ! command -v valgrind >/dev/null 2>&1; then
     echo "reader.sh: valgrind is not there"
     exit 0
@@ -18,10 +19,15 @@ awk 'BEGIN {
     for (k = 0; k < 68; k++) text = text "c"
     for (k = 0; k < 7000; k++) printf "%s\n; %s\n", blanks, text
 }' > "$folder/gaps"
-awk 'BEGIN {
-    for (k = 0; k < 93; k++) front = front "x"
-    for (k = 0; k < 5000; k++) printf "(step %s%07d (cl (= p p)) :rule refl)\n", front, k
-}' > "$folder/names"
+# Steps whose names have $1 bytes before their numbers.
+named() {
+    awk -v front="$1" 'BEGIN {
+        for (k = 0; k < front; k++) x = x "x"
+        for (k = 0; k < 5000; k++) printf "(step %s%07d (cl (= p p)) :rule refl)\n", x, k
+    }'
+}
+named 1 > "$folder/short"
+named 93 > "$folder/names"
 awk 'BEGIN { for (k = 1; k <= 20000; k++) printf "(step t%d (cl (= p p)) :rule refl)\n", k }' > "$folder/steps"
 
 # rare is a script: build the program before it is counted.
@@ -34,11 +40,15 @@ count() {
         awk '/Collected/ { print $4 }'
 }
 
-none=$(count "$folder/nothing")
-for text in gaps names steps; do
-    bytes=$(wc -c < "$folder/$text")
-    taken=$(count "$folder/$text")
-    awk -v text="$text" -v bytes="$bytes" -v taken="$taken" -v none="$none" 'BEGIN {
-        printf "%-6s %8d bytes %12d instructions %6.1f a byte\n", text, bytes, taken - none, (taken - none) / bytes
+# A line on the proof $1, beside the proof $2.
+report() {
+    bytes=$(($(wc -c < "$folder/$1") - $(wc -c < "$folder/$2")))
+    taken=$(($(count "$folder/$1") - $(count "$folder/$2")))
+    awk -v text="$1" -v bytes="$bytes" -v taken="$taken" 'BEGIN {
+        printf "%-6s %8d bytes %12d instructions %6.1f a byte\n", text, bytes, taken, taken / bytes
     }'
-done
+}
+
+report gaps nothing
+report steps nothing
+report names short

@@ -1,10 +1,10 @@
 -- Bytes of a gap.
-use Rattle.std.proofs.Common.{◌≡◌, ℕ, ◌+◌, ◌<◌, ◌≤◌, Bool, true, false, ◌||◌, not, List, [], ◌∷◌, ◌++◌, length, drop, get_or, nat_eq, ap, sym, ◌∙◌, refl, subst, arith, Option, Some, None, if◌then◌else◌, append_assoc}
+use Rattle.std.proofs.Common.{◌≡◌, ℕ, ◌+◌, ◌<◌, ◌≤◌, Bool, true, false, List, [], ◌∷◌, ◌++◌, length, drop, get_or, ap, sym, ◌∙◌, refl, subst, arith, Some, if◌then◌else◌, append_assoc}
 use Rattle.std.proofs.lemmas.List.{drop_more}
 use Rattle.rare_base.specs.declared.answers.Place.{Place}
 use Rattle.rare_sexpr.specs.declared.bytes.Class.{Class}
 use Rattle.rare_sexpr.specs.declared.bytes.Class.TheVariants.{Blank, LineFeed, Open, Close, Semicolon, Colon, Hash, Digit, Letter, Quote, Bar, Other}
-use Rattle.rare_sexpr.specs.Bytes.{is_blank, after, behind, ends_comment}
+use Rattle.rare_sexpr.specs.Bytes.{after, ends_comment}
 use Rattle.rare_sexpr.specs.inner.Classes.{class}
 use Rattle.rare_sexpr.specs.inner.Words.{gap_class, gap_step}
 use Rattle.rare_sexpr.specs.inner.Gaps.{Passes, none, blank, opens, text, ends, HasSkipped}

@@ -1,38 +1,33 @@
 -- What is read word by word is spelled, or a fault of the grammar.
-use Rattle.std.proofs.Common.{◌≡◌, ℕ, zero, suc, ◌+◌, ◌<◌, ◌≤◌, Bool, true, false, not, ◌&&◌, List, [], ◌∷◌, ◌++◌, length, take, drop, get_or, nat_lt, refl, ap, sym, ◌∙◌, subst, arith, ◌⊎◌, inl, inr}
-use Rattle.std.specs.List.{list_all}
+use Rattle.std.proofs.Common.{◌≡◌, ℕ, zero, suc, ◌+◌, ◌<◌, ◌≤◌, Bool, true, false, not, ◌&&◌, List, [], ◌∷◌, ◌++◌, length, take, drop, nat_lt, refl, ap, sym, ◌∙◌, subst, arith, ◌⊎◌, inl, inr}
 use Rattle.std.proofs.lemmas.Bool.Decides.{nat_tests}
 use Rattle.rare_base.specs.declared.answers.Place.{Place}
 use Rattle.rare_base.specs.declared.answers.Reason.{Reason}
-use Rattle.rare_base.specs.declared.answers.Reason.TheVariants.{Unbalanced, BadCharacter, TooDeep}
 use Rattle.rare_base.specs.Answers.{Refusal}
 use Rattle.rare_sexpr.specs.declared.tree.AtomKind.{AtomKind}
 use Rattle.rare_sexpr.specs.declared.tree.Sexpr.{Sexpr}
-use Rattle.rare_sexpr.specs.declared.bytes.Class.{Class}
-use Rattle.rare_sexpr.specs.declared.bytes.Class.TheVariants.{Open, Close, Other}
+use Rattle.rare_sexpr.specs.declared.bytes.Class.TheVariants.{Open, Close}
 use Rattle.rare_sexpr.specs.declared.stack.Opened.{Opened}
 use Rattle.rare_sexpr.specs.Tree.{atom_of, list_of}
 use Rattle.rare_sexpr.specs.Limits.{most_nested_lists}
-use Rattle.rare_sexpr.specs.Bytes.{after, behind, ends_comment, ends_atom}
+use Rattle.rare_sexpr.specs.Bytes.{after, behind, ends_comment}
 use Rattle.rare_sexpr.specs.Grammar.{IsGap, IsLastGap, is_one_line, Bare, Atom, Spell, Spells}
 use Rattle.rare_sexpr.specs.Grammar as grammar
 use Rattle.rare_sexpr.specs.Faults.{BeginsBare, IsBadWord, MayStandBefore, Fails, IsFault}
 use Rattle.rare_sexpr.specs.Faults as faults
 use Rattle.rare_sexpr.specs.inner.Classes.{class}
-use Rattle.rare_sexpr.specs.inner.Scan.{whole, bad, cut}
+use Rattle.rare_sexpr.specs.inner.Scan.{whole}
 use Rattle.rare_sexpr.specs.inner.Words.{text_of_word}
 use Rattle.rare_sexpr.specs.inner.Gaps.{Passes}
 use Rattle.rare_sexpr.specs.inner.Gaps as gaps
-use Rattle.rare_sexpr.specs.inner.Reading.{outermost}
 use Rattle.rare_sexpr.specs.inner.States.{State, HasAtom, HasWord, word_of, Takes, Reads, Gives, Refuses}
 use Rattle.rare_sexpr.specs.inner.States as states
 use Rattle.rare_sexpr.specs.inner.Built.{Inside, outside, list, Built}
-use Rattle.rare_sexpr.proofs.Lists.{append_none, behind_append}
+use Rattle.rare_sexpr.proofs.Lists.{behind_append}
 use Rattle.rare_sexpr.proofs.ClassTests.{IsOf, class_tests}
 use Rattle.rare_sexpr.proofs.Blanks.{passes_append}
-use Rattle.rare_sexpr.proofs.Fronts.{take_drop, take_exact}
-use Rattle.rare_sexpr.proofs.Sound.{Outcome, word_sound}
-use Rattle.rare_sexpr.proofs.Shapes.{first_of_both, second_of_both}
+use Rattle.rare_sexpr.proofs.Fronts.{take_drop}
+use Rattle.rare_sexpr.proofs.Sound.{word_sound}
 
 pub append3 : {A : Type 0} → (xs ys zs : List A) → (xs ++ ys) ++ zs ≡ xs ++ (ys ++ zs)
 append3 [] ys zs = refl

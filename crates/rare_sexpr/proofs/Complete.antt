@@ -1,5 +1,5 @@
 -- What is spelled is read, and a fault is refused.
-use Rattle.std.proofs.Common.{◌≡◌, ℕ, zero, suc, ◌+◌, ◌<◌, ◌≤◌, Bool, true, false, not, ◌||◌, ◌&&◌, List, [], ◌∷◌, ◌++◌, length, take, drop, get_or, nat_eq, nat_lt, refl, ap, sym, ◌∙◌, subst, arith, Option, Some, None, if◌then◌else◌, ◌⊎◌, inl, inr}
+use Rattle.std.proofs.Common.{◌≡◌, ℕ, suc, ◌+◌, ◌<◌, Bool, true, false, not, ◌||◌, List, [], ◌∷◌, ◌++◌, length, take, drop, get_or, nat_eq, nat_lt, refl, ap, sym, ◌∙◌, subst, arith, Some, if◌then◌else◌}
 use Rattle.std.specs.List.{list_all}
 use Rattle.std.proofs.lemmas.Bool.{eqb-true}
 use Rattle.std.proofs.lemmas.Bool.Decides.{nat_tests}
@@ -21,7 +21,7 @@ use Rattle.rare_sexpr.specs.Tree.{atom_of, list_of}
 use Rattle.rare_sexpr.specs.Limits.{most_nested_lists}
 use Rattle.rare_sexpr.specs.Bytes.{after, behind, is_blank, ends_comment, ends_atom, is_symbol_byte, is_digit, is_binary_digit, is_hex_digit, is_in_bars}
 use Rattle.rare_sexpr.specs.Written.{doubled}
-use Rattle.rare_sexpr.specs.Commands.{Commands, put_first, no_commands, refused}
+use Rattle.rare_sexpr.specs.Commands.{Commands, put_first, refused}
 use Rattle.rare_sexpr.specs.Grammar.{IsGap, IsLastGap, is_one_line, Are, Bare, Atom, may_follow_bare, has_quote_first, Spell, Spells}
 use Rattle.rare_sexpr.specs.Grammar as grammar
 use Rattle.rare_sexpr.specs.Faults.{BeginsBare, MayEnd, IsBadWord, MayStandBefore, Fails, IsFault}
@@ -30,8 +30,8 @@ use Rattle.rare_sexpr.specs.TextGrammar.{AreCommands}
 use Rattle.rare_sexpr.specs.TextGrammar as texts
 use Rattle.rare_sexpr.specs.Readings.{commands_from}
 use Rattle.rare_sexpr.specs.inner.Classes.{class}
-use Rattle.rare_sexpr.specs.inner.Scan.{Word, whole, bad, cut, scan, advance, on_advance, at_end, begins_class, begins_part}
-use Rattle.rare_sexpr.specs.inner.Words.{Token, opens, closes, atom, wrong, between, begins, words, text_of_word, gap_mode}
+use Rattle.rare_sexpr.specs.inner.Scan.{whole, bad, cut, scan, advance, on_advance, at_end, begins_class, begins_part}
+use Rattle.rare_sexpr.specs.inner.Words.{Token, atom, wrong, between, begins, words, text_of_word}
 use Rattle.rare_sexpr.specs.inner.Gaps.{Passes}
 use Rattle.rare_sexpr.specs.inner.Gaps as gaps
 use Rattle.rare_sexpr.specs.inner.Reading.{outermost, commands, ended}
@@ -41,8 +41,8 @@ use Rattle.rare_sexpr.proofs.Blanks.{passes_append}
 use Rattle.rare_sexpr.proofs.Fronts.{take_exact}
 use Rattle.rare_sexpr.proofs.Left.{passes_words, words_whole, words_bad, words_cut}
 use Rattle.rare_sexpr.proofs.Shapes.{Shape, shape_first, shape_step, shape_begins, is_bare, first_of_both, second_of_both}
-use Rattle.rare_sexpr.proofs.Walks.{Walk, here, on, walk_more, walk_front, walk_scan, walk_shape, Leads, Ends, bare_leads, run}
-use Rattle.rare_sexpr.proofs.Sound.{stopped, stopped_two, goes_or_wrong, two_or_wrong, bare_text, barred_text, quoted_text, final_bare, bare_walk}
+use Rattle.rare_sexpr.proofs.Walks.{Walk, here, on, walk_front, walk_scan, walk_shape, Ends, bare_leads, run}
+use Rattle.rare_sexpr.proofs.Sound.{stopped, stopped_two, goes_or_wrong, two_or_wrong, bare_text, barred_text, quoted_text, final_bare}
 use Rattle.rare_sexpr.proofs.Building.{append3, no_more, take_before, drop_before, places}
 use Rattle.rare_sexpr.proofs.Refusing.{first_place}
 
@@ -113,7 +113,7 @@ final_scan p k n [] bare ends e = ends n
 final_scan p k n (b ∷ rest) bare ends e = ap (λ a. on_advance a n (λ q. scan q (n + 1) rest)) (final_stops p k b bare ends e)
 
 -- a part without bars and quotes goes on to one
-abbrev GoesBare : Advance → Type 0
+abbrev pub GoesBare : Advance → Type 0
 GoesBare (Goes q) = is_bare q ≡ true
 GoesBare (Takes k) = ⊥
 GoesBare (Stops k) = Unit {0}
@@ -136,7 +136,7 @@ both_bare : (t u : Bool) (p q : Part) → is_bare p ≡ true → is_bare q ≡ t
 both_bare true u p q h i = h
 both_bare false u p q h i = wrong_bare u q i
 
-bare_advance : (p : Part) (b : ℕ) → is_bare p ≡ true → GoesBare (advance p b)
+pub bare_advance : (p : Part) (b : ℕ) → is_bare p ≡ true → GoesBare (advance p b)
 bare_advance part.Symbol b h = one_bare (is_symbol_byte b) (ends_atom b) part.Symbol kind.Symbol refl
 bare_advance part.Colon b h = wrong_bare (is_symbol_byte b) part.Keyword refl
 bare_advance part.Keyword b h = one_bare (is_symbol_byte b) (ends_atom b) part.Keyword kind.Keyword refl
@@ -152,7 +152,7 @@ bare_advance part.Bars b h = cc
 bare_advance part.Inside b h = cc
 bare_advance part.Behind b h = cc
 
-bare_goes : (p q : Part) (b : ℕ) → is_bare p ≡ true → advance p b ≡ Goes q → is_bare q ≡ true
+pub bare_goes : (p q : Part) (b : ℕ) → is_bare p ≡ true → advance p b ≡ Goes q → is_bare q ≡ true
 bare_goes p q b bare is = subst GoesBare is (bare_advance p b bare)
 
 walk_bare : (p : Part) (xs : List ℕ) (q : Part) → is_bare p ≡ true → Walk p xs q → is_bare q ≡ true

@@ -1,8 +1,7 @@
 -- The depth of an expression and of its items.
 use Rattle.std.proofs.Common.{◌≡◌, ℕ, zero, suc, ◌+◌, ◌<◌, ◌≤◌, max, List, [], ◌∷◌, map, refl, ap, sym, ◌∙◌, slice_get, Some, arith}
 use Rattle.rare_base.specs.declared.answers.Place.{Place}
-use Rattle.rare_sexpr.specs.declared.tree.AtomKind.{AtomKind}
-use Rattle.rare_sexpr.specs.Tree.{items_of, items_in, atom_of, list_of, depth, depths}
+use Rattle.rare_sexpr.specs.Tree.{items_of, items_in, list_of, depth, depths}
 use Rattle.rare_sexpr.specs.declared.tree.Sexpr.{Sexpr, Atom, List', Row_of-Sexpr, end_of-Sexpr, more_of-Sexpr}
 use Rattle.rare_sexpr.specs.declared.tree.Sexpr.{items-the_row-Sexpr, items_shown-the_row-Sexpr-0}
 use Rattle.rare_sexpr.specs.declared.tree.Sexpr.TheViews.{outs-List}

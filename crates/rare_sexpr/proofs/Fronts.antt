@@ -1,8 +1,8 @@
 -- Which bytes were taken.
-use Rattle.std.proofs.Common.{◌≡◌, ℕ, zero, suc, ◌+◌, ◌-◌, ◌<◌, ◌≤◌, List, [], ◌∷◌, ◌++◌, length, take, drop, refl, ap, sym, ◌∙◌, subst, arith, append_assoc, length-drop}
+use Rattle.std.proofs.Common.{◌≡◌, ℕ, zero, suc, ◌+◌, ◌-◌, ◌<◌, ◌≤◌, List, [], ◌∷◌, ◌++◌, length, take, drop, refl, ap, sym, ◌∙◌, arith, append_assoc, length-drop}
 use Rattle.rare_base.specs.declared.answers.Place.{Place}
 use Rattle.rare_sexpr.specs.declared.tree.Sexpr.{Sexpr}
-use Rattle.rare_sexpr.specs.Bytes.{after, behind}
+use Rattle.rare_sexpr.specs.Bytes.{behind}
 use Rattle.rare_sexpr.specs.inner.States.{State, Takes, Reads, Gives}
 use Rattle.rare_sexpr.specs.inner.States as states
 use Rattle.rare_sexpr.proofs.Lists.{take_front, behind_append}

@@ -1,5 +1,5 @@
 -- What is read leaves the commands as they are.
-use Rattle.std.proofs.Common.{◌≡◌, ℕ, zero, suc, ◌+◌, ◌<◌, ◌≤◌, Bool, true, false, ◌||◌, List, [], ◌∷◌, ◌++◌, length, take, drop, get_or, nat_eq, nat_lt, refl, ap, sym, ◌∙◌, subst, arith, Option, Some, None, if◌then◌else◌}
+use Rattle.std.proofs.Common.{◌≡◌, ℕ, zero, suc, ◌<◌, ◌≤◌, Bool, true, false, ◌||◌, List, [], ◌∷◌, ◌++◌, length, take, drop, get_or, nat_eq, refl, ap, sym, ◌∙◌, subst, arith, Some, if◌then◌else◌}
 use Rattle.std.proofs.lemmas.Bool.{eqb-true}
 use Rattle.rare_base.specs.declared.answers.Place.{Place}
 use Rattle.rare_base.specs.declared.answers.Reason.{Reason}
@@ -10,16 +10,14 @@ use Rattle.rare_sexpr.specs.declared.bytes.Class.{Class}
 use Rattle.rare_sexpr.specs.declared.bytes.Class.TheVariants.{Blank, LineFeed, Open, Close, Semicolon, Colon, Hash, Digit, Letter, Quote, Bar, Other}
 use Rattle.rare_sexpr.specs.declared.scan.Part.{Part}
 use Rattle.rare_sexpr.specs.declared.stack.Opened.{Opened}
-use Rattle.rare_sexpr.specs.Tree.{atom_of, list_of}
-use Rattle.rare_sexpr.specs.Bytes.{is_blank, ends_comment, after, behind}
-use Rattle.rare_sexpr.specs.Limits.{most_nested_lists}
-use Rattle.rare_sexpr.specs.Commands.{Commands, put_first, refused}
+use Rattle.rare_sexpr.specs.Bytes.{is_blank, after, behind}
+use Rattle.rare_sexpr.specs.Commands.{put_first, refused}
 use Rattle.rare_sexpr.specs.inner.Classes.{class}
 use Rattle.rare_sexpr.specs.inner.Scan.{Word, whole, bad, cut, scan, begins_class, begins_part}
-use Rattle.rare_sexpr.specs.inner.Words.{Token, opens, closes, atom, wrong, Mode, between, comment, words, begins, begun, on_word, skipping, skip_rest, text_of_word, gap_mode}
+use Rattle.rare_sexpr.specs.inner.Words.{Token, closes, atom, wrong, Mode, between, comment, words, begins, begun, on_word, skipping, skip_rest, text_of_word, gap_mode}
 use Rattle.rare_sexpr.specs.inner.Gaps.{Passes}
 use Rattle.rare_sexpr.specs.inner.Gaps as gaps
-use Rattle.rare_sexpr.specs.inner.Reading.{reading_from, outermost, commands, ended, closed}
+use Rattle.rare_sexpr.specs.inner.Reading.{reading_from, outermost, commands, ended}
 use Rattle.rare_sexpr.specs.inner.States.{State, left, HasAtom, HasWord, word_of, Takes, Reads, Gives, Refuses}
 use Rattle.rare_sexpr.specs.inner.States as states
 

@@ -22,3 +22,5 @@ pub mod Building
 pub mod Refusing
 pub mod Progressing
 pub mod Complete
+pub mod Lines
+pub mod Runs

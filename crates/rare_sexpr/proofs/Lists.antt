@@ -1,5 +1,5 @@
 -- Fronts and backs of lists.
-use Rattle.std.proofs.Common.{◌≡◌, ℕ, zero, suc, ◌+◌, ◌<◌, ◌≤◌, List, [], ◌∷◌, ◌++◌, length, take, drop, get_or, refl, ap, arith, length-append}
+use Rattle.std.proofs.Common.{◌≡◌, ℕ, zero, suc, ◌<◌, ◌≤◌, List, [], ◌∷◌, ◌++◌, length, take, drop, get_or, refl, ap, arith, length-append}
 use Rattle.rare_base.specs.declared.answers.Place.{Place}
 use Rattle.rare_sexpr.specs.Bytes.{after, behind}
 

@@ -1,8 +1,7 @@
 -- What a word does to the open lists.
-use Rattle.std.proofs.Common.{◌≡◌, ℕ, zero, suc, ◌+◌, ◌-◌, ◌<◌, ◌≤◌, ◌==◌, Bool, true, false, List, [], ◌∷◌, ◌++◌, length, take, drop, get_or, nat_lt, nat_eq, reverse, refl, ap, sym, ◌∙◌, subst, arith, Some, Option, None, slice_get, length-drop}
+use Rattle.std.proofs.Common.{◌≡◌, ℕ, zero, suc, ◌+◌, ◌<◌, ◌≤◌, ◌==◌, Bool, true, false, List, [], ◌∷◌, ◌++◌, length, take, drop, get_or, nat_lt, reverse, refl, ap, sym, ◌∙◌, subst, arith, Some, Option, None, slice_get, length-drop}
 use Rattle.std.proofs.lemmas.List.{drop_more, reverse-append}
 use Rattle.std.proofs.lemmas.Bool.Decides.{nat_tests}
-use Rattle.std.proofs.lemmas.Grind.{common_steps}
 use Rattle.rare_base.specs.declared.answers.Place.{Place}
 use Rattle.rare_base.specs.declared.answers.Reason.{Reason}
 use Rattle.rare_base.specs.declared.answers.Reason.TheVariants.{Unbalanced, BadCharacter, TooDeep}
@@ -25,7 +24,7 @@ use Rattle.rare_sexpr.specs.inner.Reading.{outermost}
 use Rattle.rare_sexpr.specs.inner.States.{State, Takes, Reads, Gives, Refuses, HasAtom, HasWord, word_of}
 use Rattle.rare_sexpr.specs.inner.States as states
 use Rattle.rare_sexpr.specs.inner.Parsing.{passed_byte, is_comment, state_at, AreItems, IsParsing, HasPassed, HasGone, HasCommand, IsFaulty}
-use Rattle.rare_sexpr.proofs.Lists.{take_front, drop_front, first_front, longer, append_none}
+use Rattle.rare_sexpr.proofs.Lists.{take_front, drop_front, first_front, longer}
 use Rattle.rare_sexpr.proofs.Blanks.{after_line, after_column}
 
 pub reverse_last : (xs : List Opened) (o : Opened) → reverse (xs ++ o ∷ []) ≡ o ∷ reverse xs

@@ -4,7 +4,6 @@ use Rattle.std.proofs.lemmas.List.{drop_more, drop_all}
 use Rattle.std.proofs.lemmas.Bool.Decides.{nat_tests}
 use Rattle.rare_sexpr.specs.inner.Scan.{IsRun, is_inside}
 use Rattle.rare_sexpr.specs.inner.Words.{single}
-use Rattle.rare_sexpr.proofs.Lists.{append_none}
 
 is_not : (t : Bool) → not t ≡ true → t ≡ false
 is_not true e = cc

@@ -1,11 +1,9 @@
 -- Each text comes to a command, a fault or its end.
-use Rattle.std.proofs.Common.{◌≡◌, ℕ, zero, suc, ◌+◌, ◌<◌, ◌≤◌, Bool, true, false, List, [], ◌∷◌, ◌++◌, length, take, drop, get_or, nat_lt, refl, ap, sym, ◌∙◌, subst, arith, Option, Some, None, ◌⊎◌, inl, inr, length-drop}
-use Rattle.std.proofs.lemmas.Bool.Decides.{nat_tests}
+use Rattle.std.proofs.Common.{◌≡◌, ℕ, zero, suc, ◌+◌, ◌<◌, ◌≤◌, Bool, true, false, List, [], ◌∷◌, ◌++◌, length, take, drop, get_or, nat_lt, refl, ap, sym, ◌∙◌, subst, arith, Some, length-drop}
 use Rattle.rare_base.specs.declared.answers.Place.{Place}
 use Rattle.rare_base.specs.declared.answers.Reason.{Reason}
 use Rattle.rare_base.specs.declared.answers.Reason.TheVariants.{Unbalanced, BadCharacter, TooDeep}
 use Rattle.rare_sexpr.specs.declared.tree.AtomKind.{AtomKind}
-use Rattle.rare_sexpr.specs.declared.tree.AtomKind.TheVariants as kind
 use Rattle.rare_sexpr.specs.declared.tree.Sexpr.{Sexpr}
 use Rattle.rare_sexpr.specs.declared.scan.Part.{Part}
 use Rattle.rare_sexpr.specs.declared.scan.Part.TheVariants as part
@@ -17,7 +15,7 @@ use Rattle.rare_sexpr.specs.declared.stack.Opened.{Opened}
 use Rattle.rare_sexpr.specs.Tree.{list_of}
 use Rattle.rare_sexpr.specs.Limits.{most_nested_lists}
 use Rattle.rare_sexpr.specs.Bytes.{after, behind, ends_comment}
-use Rattle.rare_sexpr.specs.Commands.{Commands, put_first, no_commands, refused}
+use Rattle.rare_sexpr.specs.Commands.{put_first, no_commands, refused}
 use Rattle.rare_sexpr.specs.Grammar.{IsLastGap, Atom, Spell, Spells}
 use Rattle.rare_sexpr.specs.Grammar as grammar
 use Rattle.rare_sexpr.specs.TextGrammar.{AreCommands}
@@ -25,7 +23,6 @@ use Rattle.rare_sexpr.specs.TextGrammar as texts
 use Rattle.rare_sexpr.specs.Readings.{commands_from}
 use Rattle.rare_sexpr.specs.inner.Classes.{class}
 use Rattle.rare_sexpr.specs.inner.Scan.{Word, whole, bad, cut, scan, advance, on_advance, at_end, begins_class, begins_part}
-use Rattle.rare_sexpr.specs.inner.Words.{text_of_word}
 use Rattle.rare_sexpr.specs.inner.Gaps.{Passes}
 use Rattle.rare_sexpr.specs.inner.Gaps as gaps
 use Rattle.rare_sexpr.specs.inner.Reading.{outermost, ended}

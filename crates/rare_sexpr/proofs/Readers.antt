@@ -1,26 +1,22 @@
 -- What a reader's fields give, and what it answers.
-use Rattle.std.proofs.Common.{◌≡◌, ℕ, ◌+◌, ◌-◌, ◌<◌, ◌≤◌, ◌^◌, ◌==◌, ◌&&◌, not, Bool, true, false, List, [], ◌∷◌, ◌++◌, length, take, drop, reverse, Option, Some, None, refl, ap, sym, ◌∙◌, subst, arith, length-drop}
+use Rattle.std.proofs.Common.{◌≡◌, ℕ, ◌+◌, ◌-◌, ◌<◌, ◌≤◌, ◌^◌, ◌==◌, ◌&&◌, not, Bool, true, false, List, [], ◌++◌, length, drop, reverse, Option, Some, None, refl, ap, sym, ◌∙◌, subst, arith, length-drop}
 use Rattle.std.specs.Option.{option_map}
 use Rattle.rare_base.specs.declared.answers.Place.{Place}
 use Rattle.rare_base.specs.declared.answers.Reason.{Reason}
 use Rattle.rare_sexpr.specs.declared.tree.Sexpr.{Sexpr}
-use Rattle.rare_sexpr.specs.declared.stack.Opened.{Opened}
 use Rattle.rare_sexpr.specs.declared.stack.Stack.{Stack}
-use Rattle.rare_sexpr.specs.declared.parser.Mode.{Mode}
-use Rattle.rare_sexpr.specs.declared.parser.Mode.TheVariants as mode
 use Rattle.rare_sexpr.specs.declared.parser.Parser.{Parser}
 use Rattle.rare_sexpr.specs.declared.parser.Read.{Read}
-use Rattle.rare_sexpr.specs.declared.parser.Read.TheVariants as read
 use Rattle.rare_sexpr.specs.declared.reader.Refused.{Refused}
 use Rattle.rare_sexpr.specs.declared.reader.Reader.TheInside.{Inside}
 use Rattle.rare_sexpr.specs.Bytes.{behind}
-use Rattle.rare_sexpr.specs.Commands.{Commands, put_first, no_commands, refused, head_of}
+use Rattle.rare_sexpr.specs.Commands.{put_first, head_of}
 use Rattle.rare_sexpr.specs.Streams.{Stream, unless_refused, commands_left}
 use Rattle.rare_sexpr.specs.Answered.{IsTaken, IsFirst, IsWaiting, IsFinished, IsRefused, IsUndecided}
 use Rattle.rare_sexpr.specs.inner.Reading.{reading_from, ended}
 use Rattle.rare_sexpr.specs.inner.Stacks.{empty_stack}
-use Rattle.rare_sexpr.specs.inner.States.{State, left, Takes, Reads, stays, Gives, Refuses}
-use Rattle.rare_sexpr.specs.inner.Parsing.{new_parser, is_comment, is_outermost, FitsMode, AreItems, state_of, state_at, IsParsing, HasPassed, HasGone, HasCommand, IsFaulty, IsAtEnd, Waits, IsFinished as IsAtLast, IsRead}
+use Rattle.rare_sexpr.specs.inner.States.{left, Reads, stays}
+use Rattle.rare_sexpr.specs.inner.Parsing.{new_parser, is_comment, is_outermost, FitsMode, AreItems, state_of, state_at, IsParsing, HasPassed, HasCommand, IsFaulty, Waits, IsFinished as IsAtLast, IsRead}
 use Rattle.rare_sexpr.specs.inner.Kept.{refusal_of, stream_of, begin_at, IsKept}
 use Rattle.rare_sexpr.proofs.Lists.{append_none}
 use Rattle.rare_sexpr.proofs.Moves.{no_items}

@@ -1,16 +1,13 @@
 -- What the reader refuses is a fault of the grammar.
-use Rattle.std.proofs.Common.{◌≡◌, ℕ, zero, suc, ◌+◌, ◌<◌, ◌≤◌, Bool, true, false, ◌||◌, List, [], ◌∷◌, ◌++◌, length, take, drop, nat_eq, nat_lt, refl, ap, sym, ◌∙◌, subst, arith, Some, None}
+use Rattle.std.proofs.Common.{◌≡◌, ℕ, ◌<◌, Bool, true, false, ◌||◌, List, [], ◌∷◌, ◌++◌, length, take, nat_eq, refl, ap, sym, ◌∙◌, subst, arith, Some, None}
 use Rattle.rare_base.specs.declared.answers.Place.{Place}
 use Rattle.rare_base.specs.declared.answers.Reason.{Reason}
 use Rattle.rare_base.specs.declared.answers.Reason.TheVariants.{Unbalanced, BadCharacter, TooDeep}
-use Rattle.rare_base.specs.Answers.{Refusal}
 use Rattle.rare_sexpr.specs.declared.tree.AtomKind.{AtomKind}
 use Rattle.rare_sexpr.specs.declared.tree.AtomKind.TheVariants as kind
-use Rattle.rare_sexpr.specs.declared.tree.Sexpr.{Sexpr}
-use Rattle.rare_sexpr.specs.declared.bytes.Class.{Class}
-use Rattle.rare_sexpr.specs.declared.bytes.Class.TheVariants.{Open, Close, Other}
+use Rattle.rare_sexpr.specs.declared.bytes.Class.TheVariants.{Other}
 use Rattle.rare_sexpr.specs.declared.stack.Opened.{Opened}
-use Rattle.rare_sexpr.specs.Bytes.{after, behind, is_symbol_byte, ends_atom}
+use Rattle.rare_sexpr.specs.Bytes.{behind, is_symbol_byte, ends_atom}
 use Rattle.rare_sexpr.specs.Grammar.{IsGap, IsLastGap, Are, Bare, Spell}
 use Rattle.rare_sexpr.specs.Grammar as grammar
 use Rattle.rare_sexpr.specs.Limits.{most_nested_lists}
@@ -28,7 +25,7 @@ use Rattle.rare_sexpr.proofs.Lists.{behind_append}
 use Rattle.rare_sexpr.proofs.ClassTests.{IsOf, IsOther, class_tests}
 use Rattle.rare_sexpr.proofs.Walks.{bare_leads}
 use Rattle.rare_sexpr.proofs.Sound.{word_sound}
-use Rattle.rare_sexpr.proofs.Building.{no_more, append3, open_byte, close_byte, whole_gap, last_gap, inside_count, inside_none, none_left, places, fails_out, word_fault}
+use Rattle.rare_sexpr.proofs.Building.{no_more, open_byte, close_byte, whole_gap, last_gap, inside_count, inside_none, none_left, places, fails_out, word_fault}
 
 pub built_begin : (p : Place) (bytes : List ℕ) → Built p bytes (begin_at p bytes)
 built_begin p bytes = record { nesting = most_nested_lists; place = p; passed = []; inside = outside; passes = gaps.none false; behind_gap = refl }

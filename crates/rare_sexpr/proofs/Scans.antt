@@ -11,7 +11,7 @@ use Rattle.rare_sexpr.specs.declared.scan.Scanned.{Scanned}
 use Rattle.rare_sexpr.specs.declared.scan.Scanned.TheVariants as scanned
 use Rattle.rare_sexpr.specs.Bytes.{is_symbol_byte, is_digit, is_in_bars}
 use Rattle.rare_sexpr.specs.inner.Scan.{whole, scan, advance, on_advance, behind_bare, IsRun, is_inside}
-use Rattle.rare_sexpr.specs.inner.Scanning.{IsEnd, IsScanned}
+use Rattle.rare_sexpr.specs.inner.Scanning.{EndsWord, IsScanned}
 
 pub record HasScanned (word : List ℕ) (at : ℕ) (p : Part) (i : ℕ) (q : Part) : Type 0 where
   pub begin : at ≤ i
@@ -92,7 +92,7 @@ pub stays_inside : (word : List ℕ) (at end : ℕ) (p : Part) → p ≡ part.In
 stays_inside word at end p e run = stays_by is_inside word at end p part.Inside e (λ b t. one (nat_eq b 34) t) run
 
 -- the end of the text
-pub scanned_end : (word : List ℕ) (at : ℕ) (p : Part) (i : ℕ) (q : Part) (told : Bool) (r : Scanned) → HasScanned word at p i q → length word ≤ i → told ≡ true → IsEnd q i r → IsScanned word at p told r
+pub scanned_end : (word : List ℕ) (at : ℕ) (p : Part) (i : ℕ) (q : Part) (told : Bool) (r : Scanned) → HasScanned word at p i q → length word ≤ i → told ≡ true → EndsWord q i r → IsScanned word at p told r
 scanned_end word at p i q told (scanned.Whole k end) h le is e = (
   omega (arith, h.begin, e.0),
   omega (arith, h.within, e.0),

@@ -1,13 +1,11 @@
 -- What the front of an atom looks like.
-use Rattle.std.proofs.Common.{◌≡◌, ℕ, zero, suc, ◌+◌, ◌<◌, ◌≤◌, Bool, true, false, not, ◌&&◌, ◌||◌, List, [], ◌∷◌, ◌++◌, length, take, drop, nat_eq, refl, ap, sym, ◌∙◌, subst, arith, Option, Some, None, if◌then◌else◌}
+use Rattle.std.proofs.Common.{◌≡◌, ℕ, ◌<◌, Bool, true, false, not, ◌&&◌, ◌||◌, List, [], ◌∷◌, ◌++◌, length, nat_eq, refl, ap, sym, ◌∙◌, subst, arith, Some, if◌then◌else◌}
 use Rattle.std.specs.List.{list_all}
-use Rattle.std.proofs.lemmas.Bool.{eqb-true, false≢true}
-use Rattle.rare_base.specs.declared.answers.Reason.TheVariants.{BadCharacter, OpenString, OpenSymbol}
+use Rattle.std.proofs.lemmas.Bool.{eqb-true}
 use Rattle.rare_sexpr.specs.declared.tree.AtomKind.{AtomKind}
 use Rattle.rare_sexpr.specs.declared.tree.AtomKind.TheVariants as kind
 use Rattle.rare_sexpr.specs.declared.scan.Part.{Part}
 use Rattle.rare_sexpr.specs.declared.scan.Part.TheVariants as part
-use Rattle.rare_sexpr.specs.declared.scan.Advance.{Advance}
 use Rattle.rare_sexpr.specs.declared.scan.Advance.TheVariants.{Goes, Takes, Stops, Wrong}
 use Rattle.rare_sexpr.specs.declared.bytes.Class.{Class}
 use Rattle.rare_sexpr.specs.declared.bytes.Class.TheVariants.{Blank, LineFeed, Open, Close, Semicolon, Colon, Hash, Digit, Letter, Quote, Bar, Other}
@@ -17,7 +15,7 @@ use Rattle.rare_sexpr.specs.Grammar.{Are, has_no_digit_first, Bare, Atom, may_fo
 use Rattle.rare_sexpr.specs.Grammar as grammar
 use Rattle.rare_sexpr.specs.Faults.{BeginsBare}
 use Rattle.rare_sexpr.specs.inner.Classes.{class}
-use Rattle.rare_sexpr.specs.inner.Scan.{Word, whole, bad, cut, scan, advance, on_advance, behind_bare, at_end, begins_class, begins_part}
+use Rattle.rare_sexpr.specs.inner.Scan.{advance, begins_class, begins_part}
 use Rattle.rare_sexpr.proofs.ClassTests.{IsOf, class_tests}
 
 abbrev pub Shape : Part → List ℕ → Type 0

@@ -1,8 +1,7 @@
 -- What the scanner finds is an atom or a fault of the grammar.
-use Rattle.std.proofs.Common.{◌≡◌, ℕ, zero, suc, ◌+◌, ◌-◌, ◌<◌, ◌≤◌, Bool, true, false, not, ◌||◌, List, [], ◌∷◌, ◌++◌, length, take, drop, get_or, nat_eq, refl, ap, sym, ◌∙◌, subst, arith, Option, Some, None, if◌then◌else◌}
+use Rattle.std.proofs.Common.{◌≡◌, ℕ, ◌+◌, ◌-◌, ◌<◌, ◌≤◌, Bool, true, false, List, [], ◌∷◌, ◌++◌, length, take, drop, get_or, nat_eq, refl, ap, sym, ◌∙◌, subst, arith, Some, if◌then◌else◌}
 use Rattle.std.specs.List.{list_all}
 use Rattle.std.proofs.lemmas.Bool.{eqb-true}
-use Rattle.rare_base.specs.declared.answers.Reason.{Reason}
 use Rattle.rare_base.specs.declared.answers.Reason.TheVariants.{BadCharacter, OpenString, OpenSymbol}
 use Rattle.rare_sexpr.specs.declared.tree.AtomKind.{AtomKind}
 use Rattle.rare_sexpr.specs.declared.tree.AtomKind.TheVariants as kind
@@ -10,19 +9,19 @@ use Rattle.rare_sexpr.specs.declared.scan.Part.{Part}
 use Rattle.rare_sexpr.specs.declared.scan.Part.TheVariants as part
 use Rattle.rare_sexpr.specs.declared.scan.Advance.{Advance}
 use Rattle.rare_sexpr.specs.declared.scan.Advance.TheVariants.{Goes, Takes, Stops, Wrong}
-use Rattle.rare_sexpr.specs.Bytes.{is_in_range, is_sign, is_mark, is_symbol_byte, is_digit, is_hex_digit, is_binary_digit, is_in_bars, ends_atom}
+use Rattle.rare_sexpr.specs.Bytes.{is_symbol_byte, is_digit, is_hex_digit, is_binary_digit, ends_atom}
 use Rattle.rare_sexpr.specs.Written.{doubled}
 use Rattle.rare_sexpr.specs.Grammar.{Are, Bare, Atom}
 use Rattle.rare_sexpr.specs.Grammar as grammar
 use Rattle.rare_sexpr.specs.Faults.{BeginsBare, MayEnd, IsBadWord}
 use Rattle.rare_sexpr.specs.Faults as faults
-use Rattle.rare_sexpr.specs.inner.Scan.{Word, whole, bad, cut, scan, advance, on_advance, behind_bare, at_end, begins_part}
+use Rattle.rare_sexpr.specs.inner.Scan.{Word, whole, bad, cut, scan, advance, on_advance, at_end, begins_part}
 use Rattle.rare_sexpr.specs.inner.Words.{single, inner, symbol_text, text_of_word}
-use Rattle.rare_sexpr.proofs.Lists.{append_none, longer}
+use Rattle.rare_sexpr.proofs.Lists.{append_none}
 use Rattle.rare_sexpr.proofs.Fronts.{take_exact}
 use Rattle.rare_sexpr.proofs.Pairs.{single_byte}
 use Rattle.rare_sexpr.proofs.Shapes.{Shape, shape_first, shape_begins, is_bare, first_of_both}
-use Rattle.rare_sexpr.proofs.Walks.{Walk, here, on, walk_more, walk_front, walk_same, walk_shape, Leads, Ends, bare_leads}
+use Rattle.rare_sexpr.proofs.Walks.{Walk, here, on, walk_more, walk_front, walk_same, walk_shape, Ends, bare_leads}
 
 append3 : (xs ys zs : List ℕ) → (xs ++ ys) ++ zs ≡ xs ++ (ys ++ zs)
 append3 [] ys zs = refl

@@ -1,9 +1,8 @@
 -- How a string is written byte by byte.
-use Rattle.std.proofs.Common.{◌≡◌, ℕ, suc, ◌+◌, ◌<◌, Bool, true, false, List, [], ◌∷◌, ◌++◌, length, take, drop, get_or, nat_eq, refl, ap, sym, ◌∙◌, append_assoc, if◌then◌else◌}
-use Rattle.std.proofs.lemmas.List.{take_more, drop_more}
+use Rattle.std.proofs.Common.{◌≡◌, ℕ, ◌+◌, ◌<◌, Bool, true, false, List, [], ◌∷◌, ◌++◌, length, take, drop, get_or, nat_eq, refl, ap, sym, ◌∙◌, append_assoc, if◌then◌else◌}
+use Rattle.std.proofs.lemmas.List.{take_more}
 use Rattle.rare_sexpr.specs.Written.{doubled, written_string, IsCut}
 use Rattle.rare_sexpr.proofs.Fronts.{take_exact, take_drop}
-use Rattle.rare_sexpr.proofs.Lists.{append_none}
 
 by_quote : (t : Bool) (x : ℕ) (a b c : List ℕ) → a ≡ b ++ c → (if t then 34 ∷ 34 ∷ a else x ∷ a) ≡ (if t then 34 ∷ 34 ∷ b else x ∷ b) ++ c
 by_quote true x a b c e = ap (λ l. 34 ∷ 34 ∷ l) e

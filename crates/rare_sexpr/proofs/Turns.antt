@@ -1,6 +1,6 @@
 -- Words one behind the other.
-use Rattle.std.proofs.Common.{◌≡◌, ℕ, ◌+◌, ◌-◌, ◌<◌, ◌≤◌, Bool, true, false, List, [], ◌∷◌, ◌++◌, length, drop, get_or, reverse, refl, ap, sym, ◌∙◌, subst, arith, Result, Ok, Err, IfOk, Option, None, append_assoc, length-drop}
-use Rattle.std.proofs.lemmas.List.{drop_more, drop_all}
+use Rattle.std.proofs.Common.{◌≡◌, ℕ, ◌-◌, ◌<◌, ◌≤◌, Bool, true, false, List, [], ◌++◌, length, drop, get_or, reverse, refl, ap, sym, ◌∙◌, subst, arith, Result, Ok, Err, IfOk, None, append_assoc, length-drop}
+use Rattle.std.proofs.lemmas.List.{drop_all}
 use Rattle.rare_base.specs.declared.answers.Place.{Place}
 use Rattle.rare_base.specs.declared.answers.Reason.{Reason}
 use Rattle.rare_base.specs.declared.answers.Reason.TheVariants.{Unbalanced}
@@ -18,12 +18,9 @@ use Rattle.rare_sexpr.specs.inner.Wording.{IsWord, Resumes}
 use Rattle.rare_sexpr.specs.declared.gaps.Gap.{Gap}
 use Rattle.rare_sexpr.specs.inner.Words.{gap_step}
 use Rattle.rare_sexpr.specs.inner.Gaps.{Passes, IsGapEnd}
-use Rattle.rare_sexpr.specs.inner.Reading.{outermost}
-use Rattle.rare_sexpr.specs.inner.Stacks.{empty_stack}
 use Rattle.rare_sexpr.specs.inner.States.{State, Takes, Reads, stays, goes, Gives, Refuses}
 use Rattle.rare_sexpr.specs.inner.States as states
-use Rattle.rare_sexpr.specs.inner.Parsing.{is_comment, behind_gap, state_at, FitsMode, AreItems, IsParsing, HasPassed, IsSkipped, HasGone, HasCommand, IsFaulty, IsAtEnd, Waits, IsTurn, IsFinished, IsRead, IsEnd}
-use Rattle.rare_sexpr.proofs.Lists.{append_none}
+use Rattle.rare_sexpr.specs.inner.Parsing.{is_comment, behind_gap, state_at, FitsMode, AreItems, IsParsing, HasPassed, IsSkipped, HasGone, HasCommand, IsFaulty, IsAtEnd, Waits, IsTurn, IsRead, IsEnd}
 use Rattle.rare_sexpr.proofs.Moves.{length_reverse, empty_of}
 
 pub reads_more : (s t u : State) → Reads s t → Reads t u → Reads s u

@@ -1,5 +1,5 @@
 -- Bytes that go on: some bytes that follow make a command of them, and others don't.
-use Rattle.std.proofs.Common.{◌≡◌, ℕ, zero, suc, ◌+◌, ◌<◌, ◌≤◌, Bool, true, false, List, [], ◌∷◌, ◌++◌, length, take, drop, get_or, Some, None, refl, ap, sym, ◌∙◌, subst, arith}
+use Rattle.std.proofs.Common.{◌≡◌, ℕ, zero, suc, ◌+◌, ◌<◌, Bool, true, false, List, [], ◌∷◌, ◌++◌, length, take, drop, get_or, Some, None, refl, ap, sym, ◌∙◌, subst, arith}
 use Rattle.std.proofs.lemmas.List.{drop_all}
 use Rattle.rare_base.specs.declared.answers.Place.{Place}
 use Rattle.rare_base.specs.declared.answers.Reason.{Reason}
@@ -19,7 +19,7 @@ use Rattle.rare_sexpr.specs.inner.Words.{atom, between, words, text_of_word, gap
 use Rattle.rare_sexpr.specs.inner.Wording.{Resumes}
 use Rattle.rare_sexpr.specs.inner.Reading.{commands}
 use Rattle.rare_sexpr.specs.inner.Parsing.{is_comment, FitsMode, IsAtEnd}
-use Rattle.rare_sexpr.proofs.Lists.{append_none, first_front, drop_front, take_front, longer}
+use Rattle.rare_sexpr.proofs.Lists.{first_front, drop_front, take_front, longer}
 use Rattle.rare_sexpr.proofs.Left.{words_whole, words_bad, words_cut}
 
 -- so many closing parentheses

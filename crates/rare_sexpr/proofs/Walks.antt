@@ -1,22 +1,20 @@
 -- A bare atom leads the scanner through parts without bars and quotes.
-use Rattle.std.proofs.Common.{◌≡◌, ℕ, zero, suc, ◌+◌, ◌<◌, ◌≤◌, Bool, true, false, not, ◌||◌, List, [], ◌∷◌, ◌++◌, length, nat_eq, refl, ap, sym, ◌∙◌, subst, arith, Option, Some, None, if◌then◌else◌}
+use Rattle.std.proofs.Common.{◌≡◌, ℕ, ◌+◌, Bool, true, false, not, ◌||◌, List, [], ◌∷◌, ◌++◌, length, nat_eq, refl, ap, sym, ◌∙◌, subst, arith, Some, if◌then◌else◌}
 use Rattle.std.specs.List.{list_all}
 use Rattle.std.proofs.lemmas.Bool.{eqb-true}
-use Rattle.rare_base.specs.declared.answers.Reason.TheVariants.{BadCharacter}
 use Rattle.rare_sexpr.specs.declared.tree.AtomKind.{AtomKind}
 use Rattle.rare_sexpr.specs.declared.tree.AtomKind.TheVariants as kind
 use Rattle.rare_sexpr.specs.declared.scan.Part.{Part}
 use Rattle.rare_sexpr.specs.declared.scan.Part.TheVariants as part
-use Rattle.rare_sexpr.specs.declared.scan.Advance.{Advance}
-use Rattle.rare_sexpr.specs.declared.scan.Advance.TheVariants.{Goes, Takes, Stops, Wrong}
+use Rattle.rare_sexpr.specs.declared.scan.Advance.TheVariants.{Goes, Wrong}
 use Rattle.rare_sexpr.specs.declared.bytes.Class.{Class}
 use Rattle.rare_sexpr.specs.declared.bytes.Class.TheVariants.{Blank, LineFeed, Open, Close, Semicolon, Colon, Hash, Digit, Letter, Quote, Bar, Other}
-use Rattle.rare_sexpr.specs.Bytes.{is_in_range, is_sign, is_mark, is_symbol_byte, is_digit, is_hex_digit, is_binary_digit, ends_atom}
+use Rattle.rare_sexpr.specs.Bytes.{is_in_range, is_sign, is_mark, is_symbol_byte, is_digit, is_hex_digit, is_binary_digit}
 use Rattle.rare_sexpr.specs.Grammar.{Are, Bare}
 use Rattle.rare_sexpr.specs.Grammar as grammar
 use Rattle.rare_sexpr.specs.inner.Classes.{class}
-use Rattle.rare_sexpr.specs.inner.Scan.{Word, whole, bad, cut, scan, advance, on_advance, behind_bare, at_end, begins_class, begins_part}
-use Rattle.rare_sexpr.proofs.ClassTests.{IsOf, IsOther, class_tests}
+use Rattle.rare_sexpr.specs.inner.Scan.{whole, scan, advance, on_advance, behind_bare, at_end, begins_class, begins_part}
+use Rattle.rare_sexpr.proofs.ClassTests.{IsOf, class_tests}
 use Rattle.rare_sexpr.proofs.Shapes.{Shape, shape_step, is_bare, first_of_both, second_of_both}
 
 -- these bytes lead from one part to another

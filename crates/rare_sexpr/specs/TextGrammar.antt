@@ -1,6 +1,6 @@
 -- Which commands a whole text spells, and which fault stands behind them
 -- (SMT-LIB 2.6, sections on the lexicon and on s-expressions).
-use Rattle.std.specs.Prelude.{ℕ, List, [], ◌++◌, Some}
+use Rattle.std.specs.Prelude.{ℕ, List, ◌++◌}
 use Rattle.rare_base.specs.declared.answers.Place.{Place}
 use Rattle.rare_base.specs.Answers.{Refusal}
 use Rattle.rare_sexpr.specs.declared.tree.Sexpr.{Sexpr}

@@ -1,6 +1,5 @@
 -- The two laws of expressions: a list has no text, an atom no items.
-use Rattle.std.specs.Prelude.{◌≡◌, ℕ, List, [], refl}
-use Rattle.rare_base.specs.declared.answers.Place.{Place}
+use Rattle.std.specs.Prelude.{◌≡◌, [], refl}
 use Rattle.rare_sexpr.specs.declared.tree.Kind.TheVariants as kind
 use Rattle.rare_sexpr.specs.declared.tree.AtomKind.{AtomKind}
 use Rattle.rare_sexpr.specs.declared.tree.AtomKind.TheVariants.{Symbol, Keyword, Numeral, Decimal, Binary, Hex, Quoted}

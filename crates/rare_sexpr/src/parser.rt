@@ -10,7 +10,7 @@ use crate::scan::Part;
 use crate::stack::Stack;
 use crate::text::text_of;
 use crate::tree::{AtomKind, Sexpr};
-use crate::word::{Found, go_on, next_word, place_behind};
+use crate::word::{Found, go_on, next_word, place_behind, place_behind_atom};
 use rare_base::{Place, Reason};
 use std::alloc::{AllocError, Global};
 
@@ -190,7 +190,7 @@ impl Parser {
                 place,
                 reason: Reason::BadCharacter,
             }),
-            Found::Atom { kind, end } => self.add_atom(alloc, bytes, kind, end),
+            Found::Atom { kind, end } => self.add_atom(alloc, bytes, ended, kind, end),
             Found::Bad { end } => Ok(Turn::Refused {
                 place: place_behind(bytes_between(bytes, self.at, end), place),
                 reason: Reason::BadCharacter,
@@ -259,24 +259,24 @@ impl Parser {
         self.mode = Mode::Between;
     }
 
-    // Reads an atom of so many bytes.
+    // Reads an atom of so many bytes, behind which the text may end.
     fn add_atom(
         &mut self,
         alloc: Global,
         bytes: &[u8],
+        ended: bool,
         kind: AtomKind,
         end: usize,
     ) -> Result<Turn, AllocError>
         requires parsing { IsParsing bytes.now self.old }
         requires between { is_comment self.old.mode ≡ false }
-        requires word { self.old.at + end ≤ length bytes.now }
-        ensures { (told : Bool) → IsWord (drop self.old.at bytes.now) told (Found.Atom kind end) → IfOk result (λ t. IsTurn bytes.now told self.old t self.new) }
+        requires word { IsWord (drop self.old.at bytes.now) ended (Found.Atom kind end) }
+        ensures { IfOk result (λ t. IsTurn bytes.now ended self.old t self.new) }
     {
-        let word = bytes_between(bytes, self.at, end);
         let place = self.place;
-        let text = text_of(alloc, kind, word)?;
+        let text = text_of(alloc, kind, bytes_between(bytes, self.at, end))?;
         let added = self.stack.add(Sexpr::Atom { place, kind, text })?;
-        self.place = place_behind(word, place);
+        self.place = place_behind_atom(bytes_from(bytes, self.at), end, place);
         self.at += end;
         self.mode = Mode::Between;
         match added {

@@ -31,7 +31,9 @@ pub struct Refused {
 ///
 /// It keeps the bytes that are not yet taken, and reads each byte once, with two exceptions: the byte
 /// that ends an atom is looked at again, and after want of memory the bytes that are not yet taken are
-/// read anew. The memory of the open lists is kept from one command to the next. Contracts see those bytes, the place of the first of them, the number of bytes
+/// read anew. The memory of the open lists is kept from one command to the next.
+///
+/// Contracts see the bytes that are not yet taken, the place of the first of them, the number of bytes
 /// fed, whether the end was told, and the refusal that stands.
 #[derive(Debug, Drop)]
 pub struct Reader {

@@ -3,7 +3,7 @@ ghost use Rattle.std.specs.Prelude.{◌≡◌, ℕ, ◌+◌, ◌<◌, ◌≤◌,
 ghost use Rattle.rare_sexpr.specs.Bytes.{is_symbol_byte, is_digit, is_in_bars};
 ghost use Rattle.rare_sexpr.specs.inner.Scan as scan_specs;
 ghost use Rattle.rare_sexpr.specs.inner.Scan.{begins_part, scan, IsRun, is_inside};
-ghost use Rattle.rare_sexpr.specs.inner.Scanning.{IsScanned, IsEnd};
+ghost use Rattle.rare_sexpr.specs.inner.Scanning.{IsScanned, EndsWord};
 
 use crate::bytes::{Class, class_of, ends_bare, in_digits, in_hex, in_symbol};
 use crate::tree::AtomKind;
@@ -123,7 +123,7 @@ fn step_on(part: Part, byte: u8) -> Advance
 
 // The end of the text in an atom of so many bytes.
 fn end_word(part: Part, taken: usize) -> Scanned
-    ensures { IsEnd part taken result }
+    ensures { EndsWord part taken result }
 {
     match part {
         Part::Symbol => Scanned::Whole {

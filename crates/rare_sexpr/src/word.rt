@@ -1,8 +1,8 @@
 //! The first word of some bytes: a parenthesis or an atom.
-ghost use Rattle.std.specs.Prelude.{◌≡◌, ◌+◌, ◌<◌, ◌≤◌, ◌^◌, length, get_or, false, None};
+ghost use Rattle.std.specs.Prelude.{◌≡◌, ◌+◌, ◌<◌, ◌≤◌, ◌^◌, length, get_or, take, false, None};
 ghost use Rattle.rare_sexpr.specs.Bytes.{behind};
 ghost use Rattle.rare_sexpr.specs.inner.Words.{gap_step};
-ghost use Rattle.rare_sexpr.specs.inner.Wording.{IsWord, Resumes};
+ghost use Rattle.rare_sexpr.specs.inner.Wording.{IsAtomOf, IsWord, Resumes};
 
 use crate::bytes::{Class, class_of, place_after};
 use crate::scan::{Part, Scanned, scan_on};
@@ -39,6 +39,23 @@ pub fn place_behind(bytes: &[u8], place: Place) -> Place
         place = place_after(*byte, place);
     }
     place
+}
+
+/// The place behind the atom of so many bytes that these begin with. Without bars and quotes an atom has no
+/// line feed, and its bytes are not looked at.
+pub fn place_behind_atom(bytes: &[u8], end: usize, place: Place) -> Place
+    requires line { place.line + end < 2 ^ 32 }
+    requires column { place.column + end < 2 ^ 32 }
+    requires atom { IsAtomOf bytes.now end }
+    ensures { result ≡ behind place (take end bytes.now) }
+{
+    if bytes[0] == b'"' || bytes[0] == b'|' {
+        return place_behind(&bytes[..end], place);
+    }
+    Place {
+        line: place.line,
+        column: place.column + end as u32,
+    }
 }
 
 /// The first word of bytes that begin with one.

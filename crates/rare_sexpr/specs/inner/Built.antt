@@ -1,5 +1,5 @@
 -- What the open lists of a text stand for in the grammar.
-use Rattle.std.specs.Prelude.{◌≡◌, ℕ, suc, ◌≤◌, false, List, [], ◌∷◌, ◌++◌, length, take, drop}
+use Rattle.std.specs.Prelude.{◌≡◌, ℕ, suc, false, List, [], ◌∷◌, ◌++◌, length}
 use Rattle.rare_base.specs.declared.answers.Place.{Place}
 use Rattle.rare_sexpr.specs.declared.tree.Sexpr.{Sexpr}
 use Rattle.rare_sexpr.specs.declared.stack.Opened.{Opened}

@@ -1,5 +1,5 @@
 -- The classes of bytes, and their numbers in the table of bytes.
-use Rattle.std.specs.Prelude.{ℕ, Bool, ◌||◌, nat_eq, if◌then◌else◌}
+use Rattle.std.specs.Prelude.{ℕ, ◌||◌, nat_eq, if◌then◌else◌}
 use Rattle.rare_sexpr.specs.declared.bytes.Class.{Class}
 use Rattle.rare_sexpr.specs.declared.bytes.Class.TheVariants.{Blank, LineFeed, Open, Close, Semicolon, Colon, Hash, Digit, Letter, Quote, Bar, Other}
 use Rattle.rare_sexpr.specs.Bytes.{is_in_range, is_mark, is_sign}

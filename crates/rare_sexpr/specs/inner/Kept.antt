@@ -1,5 +1,5 @@
 -- What the fields of a reader stand for.
-use Rattle.std.specs.Prelude.{◌≡◌, ℕ, ◌+◌, ◌-◌, ◌^◌, ◌≤◌, false, List, [], ◌++◌, length, drop, reverse}
+use Rattle.std.specs.Prelude.{ℕ, ◌+◌, ◌-◌, ◌^◌, ◌≤◌, false, List, [], ◌++◌, length, drop, reverse}
 use Rattle.std.specs.Option.{option_map}
 use Rattle.rare_base.specs.declared.answers.Place.{Place}
 use Rattle.rare_base.specs.Answers.{Refusal}

@@ -5,7 +5,6 @@ use Rattle.rare_base.specs.declared.answers.Reason.{Reason}
 use Rattle.rare_base.specs.declared.answers.Reason.TheVariants.{Unbalanced}
 use Rattle.rare_sexpr.specs.declared.tree.Sexpr.{Sexpr}
 use Rattle.rare_sexpr.specs.declared.stack.Opened.{Opened}
-use Rattle.rare_sexpr.specs.declared.stack.Stack.{Stack}
 use Rattle.rare_sexpr.specs.declared.parser.Mode.{Mode}
 use Rattle.rare_sexpr.specs.declared.parser.Mode.TheVariants as mode
 use Rattle.rare_sexpr.specs.declared.parser.Parser.{Parser}

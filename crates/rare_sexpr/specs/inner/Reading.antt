@@ -1,5 +1,5 @@
 -- The commands of a text, word by word.
-use Rattle.std.specs.Prelude.{ℕ, Bool, List, [], ◌∷◌, ◌++◌, length, take, drop, nat_lt, if◌then◌else◌}
+use Rattle.std.specs.Prelude.{ℕ, List, [], ◌∷◌, ◌++◌, length, take, drop, nat_lt, if◌then◌else◌}
 use Rattle.rare_base.specs.declared.answers.Place.{Place}
 use Rattle.rare_base.specs.declared.answers.Reason.TheVariants.{Unbalanced, TooDeep}
 use Rattle.rare_sexpr.specs.declared.tree.Sexpr.{Sexpr}

@@ -1,5 +1,5 @@
 -- One atom, byte by byte, from its first byte on.
-use Rattle.std.specs.Prelude.{◌≡◌, ℕ, ◌+◌, ◌<◌, ◌≤◌, Bool, true, false, not, ◌||◌, List, [], ◌∷◌, ◌++◌, length, drop, get_or, nat_eq, Option, Some, None, if◌then◌else◌}
+use Rattle.std.specs.Prelude.{◌≡◌, ℕ, ◌+◌, ◌<◌, ◌≤◌, Bool, true, not, List, [], ◌∷◌, length, get_or, nat_eq, Option, Some, None, if◌then◌else◌}
 use Rattle.rare_sexpr.specs.declared.tree.AtomKind.{AtomKind}
 use Rattle.rare_sexpr.specs.declared.tree.AtomKind.TheVariants as kind
 use Rattle.rare_sexpr.specs.declared.bytes.Class.{Class}
@@ -10,9 +10,7 @@ use Rattle.rare_sexpr.specs.declared.scan.Part.{Part}
 use Rattle.rare_sexpr.specs.declared.scan.Part.TheVariants as part
 use Rattle.rare_sexpr.specs.declared.scan.Advance.{Advance}
 use Rattle.rare_sexpr.specs.declared.scan.Advance.TheVariants as advance_is
-use Rattle.rare_sexpr.specs.declared.scan.Scanned.{Scanned}
-use Rattle.rare_sexpr.specs.declared.scan.Scanned.TheVariants as scanned
-use Rattle.rare_sexpr.specs.Bytes.{is_symbol_byte, is_digit, is_hex_digit, is_binary_digit, ends_atom, is_in_bars}
+use Rattle.rare_sexpr.specs.Bytes.{is_symbol_byte, is_digit, is_hex_digit, is_binary_digit, ends_atom}
 use Rattle.rare_sexpr.specs.inner.Classes.{class}
 
 -- what a byte of this class begins
@@ -85,19 +83,6 @@ on_advance advance_is.Wrong n next = bad n
 abbrev pub scan : Part → ℕ → List ℕ → Word
 scan p n [] = at_end p n
 scan p n (b ∷ bs) = on_advance (advance p b) n (λ q. scan q (n + 1) bs)
-
--- what was read is what the rest gives, however the text goes on
-abbrev pub IsScanned : List ℕ → ℕ → Part → Bool → Scanned → Type 0
-IsScanned word at p ended (scanned.Whole k end) = (at ≤ end) × (end ≤ length word) × ((more : List ℕ) → (ended ≡ true → more ≡ []) → scan p at (drop at word ++ more) ≡ whole k end)
-IsScanned word at p ended (scanned.Bad end) = (at ≤ end) × (end < length word) × ((more : List ℕ) → scan p at (drop at word ++ more) ≡ bad end)
-IsScanned word at p ended (scanned.Cut r) = (ended ≡ true) × (scan p at (drop at word) ≡ cut r)
-IsScanned word at p ended (scanned.More q) = (ended ≡ false) × ((more : List ℕ) → scan p at (drop at word ++ more) ≡ scan q (length word) more)
-
-abbrev pub IsEnd : Part → ℕ → Scanned → Type 0
-IsEnd p n (scanned.Whole k end) = (end ≡ n) × (at_end p n ≡ whole k n)
-IsEnd p n (scanned.Bad end) = ⊥
-IsEnd p n (scanned.Cut r) = at_end p n ≡ cut r
-IsEnd p n (scanned.More q) = ⊥
 
 -- in a string before its end
 abbrev pub is_inside : ℕ → Bool

@@ -12,8 +12,8 @@ IsScanned word at p ended (scanned.Bad end) = (at ≤ end) × (end < length word
 IsScanned word at p ended (scanned.Cut r) = (ended ≡ true) × (scan p at (drop at word) ≡ cut r)
 IsScanned word at p ended (scanned.More q) = (ended ≡ false) × ((more : List ℕ) → scan p at (drop at word ++ more) ≡ scan q (length word) more)
 
-abbrev pub IsEnd : Part → ℕ → Scanned → Type 0
-IsEnd p n (scanned.Whole k end) = (end ≡ n) × (at_end p n ≡ whole k n)
-IsEnd p n (scanned.Bad end) = ⊥
-IsEnd p n (scanned.Cut r) = at_end p n ≡ cut r
-IsEnd p n (scanned.More q) = ⊥
+abbrev pub EndsWord : Part → ℕ → Scanned → Type 0
+EndsWord p n (scanned.Whole k end) = (end ≡ n) × (at_end p n ≡ whole k n)
+EndsWord p n (scanned.Bad end) = ⊥
+EndsWord p n (scanned.Cut r) = at_end p n ≡ cut r
+EndsWord p n (scanned.More q) = ⊥

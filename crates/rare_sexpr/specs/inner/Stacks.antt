@@ -1,5 +1,5 @@
 -- What is done to the open lists.
-use Rattle.std.specs.Prelude.{◌≡◌, ◌==◌, true, false, List, [], ◌∷◌, ◌++◌, length, take, drop, Option, Some, None}
+use Rattle.std.specs.Prelude.{◌≡◌, ◌==◌, false, [], ◌∷◌, ◌++◌, length, take, drop, Option, Some, None}
 use Rattle.rare_sexpr.specs.declared.tree.Sexpr.{Sexpr}
 use Rattle.rare_sexpr.specs.declared.stack.Opened.{Opened}
 use Rattle.rare_sexpr.specs.declared.stack.Stack.{Stack}

@@ -2,6 +2,7 @@
 use Rattle.std.specs.Prelude.{◌≡◌, ℕ, ◌≤◌, ◌<◌, Bool, true, false, List, [], ◌++◌, length, drop, get_or, Some}
 use Rattle.rare_sexpr.specs.declared.bytes.Class.TheVariants.{Open, Close, Other}
 use Rattle.rare_sexpr.specs.declared.scan.Part.{Part}
+use Rattle.rare_sexpr.specs.declared.tree.AtomKind.{AtomKind}
 use Rattle.rare_sexpr.specs.declared.word.Found.{Found}
 use Rattle.rare_sexpr.specs.declared.word.Found.TheVariants as found
 use Rattle.rare_sexpr.specs.inner.Classes.{class}
@@ -24,3 +25,7 @@ IsWord bytes told (found.Atom k n) = (0 < n) × (n ≤ length bytes) × Comes by
 IsWord bytes told (found.Bad n) = (n < length bytes) × Comes bytes told (bad n)
 IsWord bytes told (found.Cut r) = (told ≡ true) × Comes bytes told (cut r)
 IsWord bytes told (found.More q) = (told ≡ false) × Resumes bytes (length bytes) q
+
+-- these bytes begin with an atom of so many
+abbrev pub IsAtomOf : List ℕ → ℕ → Type 0
+IsAtomOf bytes n = (told : Bool) × (k : AtomKind) × IsWord bytes told (found.Atom k n)

@@ -1,6 +1,6 @@
 -- The words of a text: parentheses and atoms, with blanks and comments between them
 -- (SMT-LIB 2.6, sections on the lexicon and on s-expressions).
-use Rattle.std.specs.Prelude.{◌≡◌, ℕ, zero, suc, ◌+◌, ◌-◌, ◌≤◌, ◌<◌, Bool, true, false, List, [], ◌∷◌, ◌++◌, length, take, drop, get_or, Option, Some, None, nat_eq, if◌then◌else◌}
+use Rattle.std.specs.Prelude.{ℕ, zero, suc, ◌-◌, Bool, true, false, List, [], ◌∷◌, length, take, drop, Option, Some, None, nat_eq, if◌then◌else◌}
 use Rattle.rare_base.specs.declared.answers.Place.{Place}
 use Rattle.rare_sexpr.specs.declared.tree.AtomKind.{AtomKind}
 use Rattle.rare_sexpr.specs.declared.tree.AtomKind.TheVariants as kind
@@ -11,7 +11,7 @@ use Rattle.rare_base.specs.declared.answers.Reason.TheVariants as reason
 use Rattle.rare_sexpr.specs.declared.scan.Part.{Part}
 use Rattle.rare_sexpr.specs.Bytes.{after, behind, ends_comment}
 use Rattle.rare_sexpr.specs.inner.Classes.{class}
-use Rattle.rare_sexpr.specs.inner.Scan.{Word, whole, bad, cut, scan, begins_class, begins_part}
+use Rattle.rare_sexpr.specs.inner.Scan.{Word, whole, bad, cut, scan, begins_class}
 
 -- a word and the place of its first byte
 pub data Token : Type 0 where

@@ -2,8 +2,8 @@ use Rattle.std.proofs.Common.{length, ◌-◌}
 use Rattle.rare_sexpr.specs.inner.Gaps.{HasSkipped}
 use Rattle.rare_sexpr.proofs.gaps.skip_gap.Given as goal
 
-abbrev pub invariant-gap : goal.invariant-gap
-invariant-gap l = HasSkipped l.bytes l.from l.fn.place l.fn.in_comment l.at l.place l.in_comment
+abbrev pub invariant-steps : goal.invariant-steps
+invariant-steps l = HasSkipped l.bytes l.from l.fn.place l.fn.in_comment l.gap.at l.gap.place l.gap.in_comment
 
-abbrev pub decreases-gap : goal.decreases-gap
-decreases-gap l = length l.bytes - l.at
+abbrev pub decreases-steps : goal.decreases-steps
+decreases-steps l = length l.bytes - l.gap.at

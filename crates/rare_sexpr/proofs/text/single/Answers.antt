@@ -1,4 +1,4 @@
-use Rattle.std.proofs.Common.{◌≡◌, ◌+◌, ap, nat_eq, ◌++◌, ◌∷◌, [], drop, get_or, length, IfOk, Ok, Err, Result, List, ℕ, sym, ◌∙◌, arith}
+use Rattle.std.proofs.Common.{◌≡◌, ◌+◌, ap, nat_eq, ◌++◌, drop, get_or, IfOk, Ok, Err, Result, List, ℕ, sym, ◌∙◌, arith}
 use Rattle.rare_sexpr.specs.inner.Words.{single}
 use Rattle.rare_sexpr.proofs.Pairs.{single_none, is_no_quote, turn_byte, turn_last, turn_pair}
 use Rattle.rare_sexpr.proofs.text.single.Goals as goal

@@ -1,4 +1,4 @@
-use Rattle.std.proofs.Common.{◌≡◌, ◌<◌, sym, ◌∙◌, subst, arith}
+use Rattle.std.proofs.Common.{◌<◌, sym, ◌∙◌, subst, arith}
 use Rattle.rare_sexpr.specs.inner.Parsing.{HasGone, HasCommand}
 use Rattle.rare_sexpr.proofs.Moves.{close_alone, close_command, close_goes, no_items, added_some, added_none}
 use Rattle.rare_sexpr.proofs.parser.Parser.close.Goals as goal

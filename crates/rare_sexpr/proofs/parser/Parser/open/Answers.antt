@@ -1,4 +1,4 @@
-use Rattle.std.proofs.Common.{◌≡◌, ◌<◌, sym, subst, arith}
+use Rattle.std.proofs.Common.{◌<◌, sym, subst, arith}
 use Rattle.rare_sexpr.specs.inner.Parsing.{passed_byte, HasGone}
 use Rattle.rare_sexpr.proofs.Moves.{open_goes, open_deep}
 use Rattle.rare_sexpr.proofs.parser.Parser.open.Goals as goal

@@ -1,4 +1,4 @@
-use Rattle.std.proofs.Common.{◌≡◌, drop, sym, ap, ◌∙◌, subst}
+use Rattle.std.proofs.Common.{drop, sym, ap, ◌∙◌, subst}
 use Rattle.rare_sexpr.specs.Bytes.{behind}
 use Rattle.rare_sexpr.specs.inner.Classes.{class}
 use Rattle.rare_sexpr.specs.inner.Wording.{IsWord}
@@ -13,7 +13,7 @@ returns-in-NoWord c =
     refused_first c.args.bytes.now c.args.ended old c.requires.some c.requires.between (ap class (sym (first_left c.args.bytes.now old.at c.requires.some)) ∙ w)
 
 pub returns-in-Atom : goal.returns-in-Atom
-returns-in-Atom c = c.add_atom.ensures c.args.ended (subst (λ f. IsWord (drop c.args.self.now.at c.args.bytes.now) c.args.ended f) c.in-Atom.is c.requires.word)
+returns-in-Atom c = c.add_atom.ensures
 
 pub returns-in-Bad : goal.returns-in-Bad
 returns-in-Bad c =

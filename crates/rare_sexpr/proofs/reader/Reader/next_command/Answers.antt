@@ -1,4 +1,4 @@
-use Rattle.std.proofs.Common.{◌≡◌, Option, Some, sym, ◌∙◌, subst}
+use Rattle.std.proofs.Common.{Option, Some, sym, ◌∙◌, subst}
 use Rattle.rare_sexpr.specs.declared.parser.Parser.{Parser}
 use Rattle.rare_sexpr.specs.declared.parser.Read.TheVariants as read
 use Rattle.rare_sexpr.specs.declared.reader.Refused.{Refused}

@@ -1,0 +1,10 @@
+use Rattle.std.proofs.Common.{length, ◌-◌}
+use Rattle.rare_sexpr.specs.inner.Gaps.{is_line_blank}
+use Rattle.rare_sexpr.specs.inner.Scan.{IsRun}
+use Rattle.rare_sexpr.proofs.gaps.blank_run.Given as goal
+
+abbrev pub invariant-run : goal.invariant-run
+invariant-run l = IsRun is_line_blank l.bytes l.at l.i
+
+abbrev pub decreases-run : goal.decreases-run
+decreases-run l = length l.bytes - l.i
