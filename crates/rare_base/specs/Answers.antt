@@ -3,7 +3,7 @@ use Rattle.std.specs.Prelude.{ℕ, List, codes}
 use Rattle.rare_base.specs.declared.answers.Status.{Status}
 use Rattle.rare_base.specs.declared.answers.Status.TheVariants.{AllGood, NotAll, BadWords, BadText, ReadFault, WriteFault, Memory, TooLong}
 use Rattle.rare_base.specs.declared.answers.Reason.{Reason}
-use Rattle.rare_base.specs.declared.answers.Reason.TheVariants.{Unbalanced, BadCharacter, OpenString, OpenSymbol, TooDeep, Unread}
+use Rattle.rare_base.specs.declared.answers.Reason.TheVariants.{Unbalanced, BadCharacter, OpenString, OpenSymbol, TooDeep, Unread, BadForm, UnknownCommand, UnknownSymbol, DeclaredTwice, ReservedSymbol, BadSort, IllSorted, LiteralTooWide, TermLimit, NonLinear, SampleFails, UnknownRule}
 use Rattle.rare_base.specs.declared.answers.Place.{Place}
 
 abbrev pub number_of : Status → ℕ
@@ -23,6 +23,18 @@ word_of OpenString = codes "OpenString"
 word_of OpenSymbol = codes "OpenSymbol"
 word_of TooDeep = codes "TooDeep"
 word_of Unread = codes "Unread"
+word_of BadForm = codes "BadForm"
+word_of UnknownCommand = codes "UnknownCommand"
+word_of UnknownSymbol = codes "UnknownSymbol"
+word_of DeclaredTwice = codes "DeclaredTwice"
+word_of ReservedSymbol = codes "ReservedSymbol"
+word_of BadSort = codes "BadSort"
+word_of IllSorted = codes "IllSorted"
+word_of LiteralTooWide = codes "LiteralTooWide"
+word_of TermLimit = codes "TermLimit"
+word_of NonLinear = codes "NonLinear"
+word_of SampleFails = codes "SampleFails"
+word_of UnknownRule = codes "UnknownRule"
 
 -- where and why a text is refused
 pub record Refusal : Type 0 where

@@ -66,6 +66,33 @@ pub enum Reason {
     /// A command has none of the forms that are read, or breaks a rule on names, a number of
     /// arguments or a limit; at its first byte.
     Unread,
+    /// An expression has none of the forms that may stand in its place, and no other reason applies;
+    /// at that expression.
+    BadForm,
+    /// A list whose first symbol is no command of such a file, at the list.
+    UnknownCommand,
+    /// A name that is not declared, or not of the kind needed, at the name.
+    UnknownSymbol,
+    /// A name that was declared before or is a word of the theories is declared, or a second rewrite
+    /// has a name; at the name.
+    DeclaredTwice,
+    /// A name that is reserved is declared or bound, at the name.
+    ReservedSymbol,
+    /// An expression that is no sort, or a sort whose width is not entailed to be at least 1; at it.
+    BadSort,
+    /// An application or a literal breaks its rule of sorts, at it; or the two sides of an equation
+    /// have two sorts, at the command; or a term has another sort than is stated, at that sort.
+    IllSorted,
+    /// A literal has a larger value than may be read, at the literal.
+    LiteralTooWide,
+    /// A term, a sort, a linear expression or a constraint is beyond a limit, at it.
+    TermLimit,
+    /// A product of two linear expressions that both have names, at the product.
+    NonLinear,
+    /// A constraint is false where each name has its sample, at the command.
+    SampleFails,
+    /// The word for the rule of a step is none of those that are known, at the word.
+    UnknownRule,
 }
 
 impl Reason {
@@ -80,6 +107,18 @@ impl Reason {
             Reason::OpenSymbol => "OpenSymbol",
             Reason::TooDeep => "TooDeep",
             Reason::Unread => "Unread",
+            Reason::BadForm => "BadForm",
+            Reason::UnknownCommand => "UnknownCommand",
+            Reason::UnknownSymbol => "UnknownSymbol",
+            Reason::DeclaredTwice => "DeclaredTwice",
+            Reason::ReservedSymbol => "ReservedSymbol",
+            Reason::BadSort => "BadSort",
+            Reason::IllSorted => "IllSorted",
+            Reason::LiteralTooWide => "LiteralTooWide",
+            Reason::TermLimit => "TermLimit",
+            Reason::NonLinear => "NonLinear",
+            Reason::SampleFails => "SampleFails",
+            Reason::UnknownRule => "UnknownRule",
         }
     }
 }

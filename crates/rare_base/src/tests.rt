@@ -121,7 +121,23 @@ fn texts_hold_their_bytes(rt: HostRuntime) -> Result<(), Fail> {
     text.append(b"are")?;
     assert_eq!(rt; text.bytes(), b"rare".as_slice());
     assert_eq!(rt; text.copy(alloc)?.bytes(), b"rare".as_slice());
-    assert_eq!(rt; Reason::Unread.word(), "Unread");
+    for (reason, word) in [
+        (Reason::Unread, "Unread"),
+        (Reason::BadForm, "BadForm"),
+        (Reason::UnknownCommand, "UnknownCommand"),
+        (Reason::UnknownSymbol, "UnknownSymbol"),
+        (Reason::DeclaredTwice, "DeclaredTwice"),
+        (Reason::ReservedSymbol, "ReservedSymbol"),
+        (Reason::BadSort, "BadSort"),
+        (Reason::IllSorted, "IllSorted"),
+        (Reason::LiteralTooWide, "LiteralTooWide"),
+        (Reason::TermLimit, "TermLimit"),
+        (Reason::NonLinear, "NonLinear"),
+        (Reason::SampleFails, "SampleFails"),
+        (Reason::UnknownRule, "UnknownRule"),
+    ] {
+        assert_eq!(rt; reason.word(), word);
+    }
     assert_eq!(rt; Status::TooLong.number(), 7);
     Ok(())
 }
