@@ -1,0 +1,12 @@
+pub mod Listing
+pub mod Counting
+pub mod InOrder
+pub mod Fitting
+pub mod LinearSteps
+pub mod Naming
+pub mod ConstraintSteps
+pub mod SortSteps
+pub mod ScopeLemmas
+pub mod PlaceLemmas
+pub mod Cutting
+pub mod PrintingSteps

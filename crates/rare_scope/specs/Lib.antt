@@ -1,0 +1,11 @@
+pub mod Reading
+pub mod Answers
+pub mod Entries
+pub mod Numbers
+pub mod Reserved
+pub mod Names
+pub mod LinearText
+pub mod ConstraintText
+pub mod SortText
+pub mod Printing
+pub mod inner
