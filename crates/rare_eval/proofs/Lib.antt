@@ -1,0 +1,12 @@
+pub mod EvaluationLemmas
+pub mod SliceLemmas
+pub mod StepLemmas
+pub mod FoldLemmas
+pub mod ProgressLemmas
+pub mod IndexLemmas
+pub mod SortedLemmas
+pub mod NodeLemmas
+pub mod WalkLemmas
+pub mod DistinctLemmas
+pub mod CycleLemmas
+pub mod ValueTermLemmas

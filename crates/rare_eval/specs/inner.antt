@@ -1,0 +1,8 @@
+pub mod Groups
+pub mod Cut
+pub mod Suits
+pub mod Progress
+pub mod Indices
+pub mod Sorted
+pub mod Codes
+pub mod Ready
