@@ -1,0 +1,17 @@
+pub mod Params
+pub mod Nodes
+pub mod ParamForms
+pub mod NodeForms
+pub mod Determination
+pub mod Rules
+pub mod RuleSorting
+pub mod Holds
+pub mod RuleLaws
+pub mod TypedRule
+pub mod Books
+pub mod Written
+pub mod RuleRows
+pub mod FormRows
+pub mod OutOfForm
+pub mod WrongRules
+pub mod inner

@@ -1,0 +1,4 @@
+pub mod Operators
+pub mod Totals
+pub mod RuleShapes
+pub mod ShapeLaws

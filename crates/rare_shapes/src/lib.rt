@@ -1,0 +1,6 @@
+//! What the laws of rules share: operators whose arguments may be lists. No function here computes anything.
+#![tactic(auto)]
+
+mod laws;
+
+pub use laws::{applications_have_totals, shapes_hold};
