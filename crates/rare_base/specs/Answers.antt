@@ -3,7 +3,7 @@ use Rattle.std.specs.Prelude.{ℕ, List, codes}
 use Rattle.rare_base.specs.declared.answers.Status.{Status}
 use Rattle.rare_base.specs.declared.answers.Status.TheVariants.{AllGood, NotAll, BadWords, BadText, ReadFault, WriteFault, Memory, TooLong}
 use Rattle.rare_base.specs.declared.answers.Reason.{Reason}
-use Rattle.rare_base.specs.declared.answers.Reason.TheVariants.{Unbalanced, BadCharacter, OpenString, OpenSymbol, TooDeep, Unread, BadForm, UnknownCommand, UnknownSymbol, DeclaredTwice, ReservedSymbol, BadSort, IllSorted, LiteralTooWide, TermLimit, NonLinear, SampleFails, UnknownRule}
+use Rattle.rare_base.specs.declared.answers.Reason.TheVariants.{Unbalanced, BadCharacter, OpenString, OpenSymbol, TooDeep, BadForm, UnknownCommand, UnknownSymbol, DeclaredTwice, ReservedSymbol, BadSort, IllSorted, LiteralTooWide, TermLimit, NonLinear, SampleFails, UnknownRule}
 use Rattle.rare_base.specs.declared.answers.Place.{Place}
 
 abbrev pub number_of : Status → ℕ
@@ -16,33 +16,29 @@ number_of WriteFault = 5
 number_of Memory = 6
 number_of TooLong = 7
 
-abbrev pub word_of : Reason → List ℕ
-word_of Unbalanced = codes "Unbalanced"
-word_of BadCharacter = codes "BadCharacter"
-word_of OpenString = codes "OpenString"
-word_of OpenSymbol = codes "OpenSymbol"
-word_of TooDeep = codes "TooDeep"
-word_of Unread = codes "Unread"
-word_of BadForm = codes "BadForm"
-word_of UnknownCommand = codes "UnknownCommand"
-word_of UnknownSymbol = codes "UnknownSymbol"
-word_of DeclaredTwice = codes "DeclaredTwice"
-word_of ReservedSymbol = codes "ReservedSymbol"
-word_of BadSort = codes "BadSort"
-word_of IllSorted = codes "IllSorted"
-word_of LiteralTooWide = codes "LiteralTooWide"
-word_of TermLimit = codes "TermLimit"
-word_of NonLinear = codes "NonLinear"
-word_of SampleFails = codes "SampleFails"
-word_of UnknownRule = codes "UnknownRule"
+abbrev pub reason_word : Reason → List ℕ
+reason_word Unbalanced = codes "Unbalanced"
+reason_word BadCharacter = codes "BadCharacter"
+reason_word OpenString = codes "OpenString"
+reason_word OpenSymbol = codes "OpenSymbol"
+reason_word TooDeep = codes "TooDeep"
+reason_word BadForm = codes "BadForm"
+reason_word UnknownCommand = codes "UnknownCommand"
+reason_word UnknownSymbol = codes "UnknownSymbol"
+reason_word DeclaredTwice = codes "DeclaredTwice"
+reason_word ReservedSymbol = codes "ReservedSymbol"
+reason_word BadSort = codes "BadSort"
+reason_word IllSorted = codes "IllSorted"
+reason_word LiteralTooWide = codes "LiteralTooWide"
+reason_word TermLimit = codes "TermLimit"
+reason_word NonLinear = codes "NonLinear"
+reason_word SampleFails = codes "SampleFails"
+reason_word UnknownRule = codes "UnknownRule"
 
 -- where and why a text is refused
 pub record Refusal : Type 0 where
   pub place : Place
   pub reason : Reason
-
-abbrev pub unread_at : Place → Refusal
-unread_at place = record { place = place; reason = Unread }
 
 -- the place of the first byte of a text
 abbrev pub first_place : Place

@@ -33,8 +33,8 @@ ok_above_zero (Ok (suc n)) = Some (suc n)
 ok_above_zero (Err e) = None
 
 -- what a read gave is the text at its place, where the text is told
-abbrev pub Gives : {E : Type 0} → Option (List ℕ) → ℕ → Result ℕ E → List ℕ → Type 0
-Gives told at result buf = IfOk result (λ n. IfSome told (λ all. ReadsAt all at n buf))
+abbrev pub GivesBytes : {E : Type 0} → Option (List ℕ) → ℕ → Result ℕ E → List ℕ → Type 0
+GivesBytes told at result buf = IfOk result (λ n. IfSome told (λ all. ReadsAt all at n buf))
 
 -- the bytes that a put took
 abbrev pub taken : {E : Type 0} → Result ℕ E → List ℕ → List ℕ

@@ -1,7 +1,7 @@
 //! How a run ends, and why a text is refused: the statuses with their numbers, the reasons with their words.
 
 ghost use Rattle.std.specs.Prelude.{◌≡◌};
-ghost use Rattle.rare_base.specs.Answers.{number_of, word_of};
+ghost use Rattle.rare_base.specs.Answers.{number_of, reason_word};
 
 /// How a run ended.
 #[derive(Clone, Copy, Debug, PartialEq, Eq)]
@@ -63,9 +63,6 @@ pub enum Reason {
     OpenSymbol,
     /// More lists within one another than may be nested, at the `(` of the first too many.
     TooDeep,
-    /// A command has none of the forms that are read, or breaks a rule on names, a number of
-    /// arguments or a limit; at its first byte.
-    Unread,
     /// An expression has none of the forms that may stand in its place, and no other reason applies;
     /// at that expression.
     BadForm,
@@ -98,7 +95,7 @@ pub enum Reason {
 impl Reason {
     /// The word that is printed for it.
     pub fn word(&self) -> &'static str
-        ensures { result.now ≡ word_of self.now }
+        ensures { result.now ≡ reason_word self.now }
     {
         match self {
             Reason::Unbalanced => "Unbalanced",
@@ -106,7 +103,6 @@ impl Reason {
             Reason::OpenString => "OpenString",
             Reason::OpenSymbol => "OpenSymbol",
             Reason::TooDeep => "TooDeep",
-            Reason::Unread => "Unread",
             Reason::BadForm => "BadForm",
             Reason::UnknownCommand => "UnknownCommand",
             Reason::UnknownSymbol => "UnknownSymbol",

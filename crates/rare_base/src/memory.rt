@@ -2,7 +2,7 @@
 
 ghost use Rattle.std.specs.Prelude.{◌≡◌, ◌+◌, ◌-◌, ◌<◌, ◌≤◌, [], ℕ, length, take, drop, min, IfOk, IfSome, ◌^◌, ◌++◌, vec_len, vec_capacity};
 ghost use Rattle.std.specs.Option.{option_copied};
-ghost use Rattle.rare_base.specs.Outside.{CountsFault, Gives, ReadsAt, ok_of, taken};
+ghost use Rattle.rare_base.specs.Outside.{CountsFault, GivesBytes, ReadsAt, ok_of, taken};
 ghost use Rattle.rare_base.specs.MemoryTexts.{text_named};
 
 use crate::{Failed, Library, Sink, Text};
@@ -111,7 +111,7 @@ impl Library for MemoryLibrary {
     fn read(&mut self, name: &[u8], at: u64, buf: &mut [u8]) -> Result<usize, Failed>
         requires { 0 < length buf.old }
         ensures bound { IfOk result (λ n. n ≤ length buf.new) }
-        ensures bytes { Gives (text_named (texts_of self.old) name.now) at result buf.new }
+        ensures bytes { GivesBytes (text_named (texts_of self.old) name.now) at result buf.new }
         ensures texts { texts_of self.new ≡ texts_of self.old }
         ensures cause { CountsFault (faults_of self.old) (faults_of self.new) result }
         ensures calls { reads_of self.new ≡ min (reads_of self.old + 1) most_calls }

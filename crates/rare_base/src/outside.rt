@@ -1,7 +1,7 @@
 //! The outside as two traits, `Library` and `Sink`, and the reading and the putting of whole texts by them.
 
 ghost use Rattle.std.specs.Prelude.{◌≡◌, ◌≢◌, ℕ, ◌+◌, ◌-◌, ◌^◌, ◌<◌, ◌≤◌, List, [], ◌∷◌, ◌++◌, length, min, take, Option, IfSome, IfOk, OnOk, OnErr, IsOk, IsErrOf};
-ghost use Rattle.rare_base.specs.Outside.{Rose, CountsFault, Gives, ok_of, taken, grown};
+ghost use Rattle.rare_base.specs.Outside.{Rose, CountsFault, GivesBytes, ok_of, taken, grown};
 ghost use Rattle.rare_base.specs.Reads.{Read, read_of, room_at, most_file_bytes, Added, ReadInTurn, ReadToEnd};
 
 use crate::Text;
@@ -31,7 +31,7 @@ pub trait Library {
         requires room { 0 < length buf.old }
         requires near { at ≤ most_file_bytes }
         ensures bound { IfOk result (λ n. n ≤ length buf.new) }
-        ensures bytes { Gives (text self.old name.now) at result buf.new }
+        ensures bytes { GivesBytes (text self.old name.now) at result buf.new }
         ensures texts { (w : List ℕ) → text self.new w ≡ text self.old w }
         ensures cause { CountsFault (faults self.old name.now) (faults self.new name.now) result }
         ensures others { (w : List ℕ) → faults self.old w ≤ faults self.new w }

@@ -122,7 +122,6 @@ fn texts_hold_their_bytes(rt: HostRuntime) -> Result<(), Fail> {
     assert_eq!(rt; text.bytes(), b"rare".as_slice());
     assert_eq!(rt; text.copy(alloc)?.bytes(), b"rare".as_slice());
     for (reason, word) in [
-        (Reason::Unread, "Unread"),
         (Reason::BadForm, "BadForm"),
         (Reason::UnknownCommand, "UnknownCommand"),
         (Reason::UnknownSymbol, "UnknownSymbol"),

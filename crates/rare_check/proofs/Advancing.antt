@@ -1,116 +1,129 @@
 -- What is kept as commands of a proof are judged one by one.
-use Rattle.std.proofs.Common.{◌≡◌, ℕ, zero, suc, position, bytes_eq, ◌+◌, ◌<◌, Bool, true, false, List, [], ◌∷◌, ◌++◌, map, length, slice_get, Some, None, refl, ap, sym, ◌∙◌, arith, subst, length-append, if◌then◌else◌}
+use Rattle.std.proofs.Common.{◌≡◌, ℕ, zero, suc, ◌+◌, ◌<◌, ◌≤◌, Bool, true, false, List, [], ◌∷◌, ◌++◌, map, length, slice_get, All, nat_lt, Option, Some, None, Err, refl, ap, sym, ◌∙◌, arith, subst, length-append}
 use Rattle.std.specs.Option.{option_map}
-use Rattle.std.proofs.lemmas.List.{append-nil}
-use Rattle.std.proofs.lemmas.List.Elements.{All-push, All-head, All-tail}
-use Rattle.std.proofs.lemmas.Option.{none-some, same_Some}
-use Rattle.rare_sort.specs.declared.tree.Tree.{Tree}
+use Rattle.std.proofs.lemmas.Bool.Decides.{Decides-ltb}
+use Rattle.std.proofs.lemmas.List.{append-nil, map-append}
+use Rattle.std.proofs.lemmas.List.Elements.{All-push}
 use Rattle.rare_sort.specs.Ids.{tree_at}
-use Rattle.rare_check.specs.declared.judged.Sides.{Sides}
+use Rattle.rare_sort.specs.declared.tree.Tree.{Tree}
+use Rattle.rare_text.specs.Problems.{StatedRewrite}
+use Rattle.rare_proof.specs.declared.fault.AddError.{AddError}
+use Rattle.rare_proof.specs.declared.fault.AddError.TheVariants.{Invalid}
+use Rattle.rare_proof.specs.Proofs.{IsAddedAt, Judges, IsProofOver, concluded_by, conclusions, stated_step, stated_steps}
+use Rattle.rare_proof.specs.Steps.{Equation, equation}
+use Rattle.rare_proof.specs.declared.fault.StepFault.{StepFault}
+use Rattle.rare_proof.specs.declared.step.Step.{Step}
+use Rattle.rare_proof_text.specs.ProofCommands.{ProofCommand, NamedStep, Define, Conclude}
+use Rattle.rare_proof_text.specs.ProofCommands as text
+use Rattle.rare_check.specs.Verdicts.{NamedEquation, fault_of, name_of, named_step_fault, conclusion_fault, rewrite_place}
 use Rattle.rare_check.specs.declared.judged.Judged.{Judged}
-use Rattle.rare_check.specs.declared.steps.StepFault.{StepFault}
-use Rattle.rare_check.specs.declared.steps.StepFault.TheVariants.{IdUsed, NoSuchRewrite}
-use Rattle.rare_check.specs.Names.{is_among}
-use Rattle.rare_check.specs.ProblemText.{StatedProblem}
-use Rattle.rare_check.specs.ProofText.{ProofCommand, Step, Conclude, StatedStep}
-use Rattle.rare_check.specs.Steps.{Equation, ids_of, premises_of, rule_fault, step_fault, rewrite_place, rewrite_sides, equation_fault, conclusion_fault, sides_named}
-use Rattle.rare_check.specs.declared.problem.Rewrite.{Rewrite}
-use Rattle.rare_check.specs.Stated.{stated_rewrite, HaveIds}
-use Rattle.rare_check.proofs.Problems.{names_stated}
-use Rattle.rare_check.specs.Verdicts.{fault_of, name_of}
-use Rattle.rare_check.specs.inner.CommandsRead.{SidesAreIds}
-use Rattle.rare_check.specs.inner.Judging.{IsJudged, AreAllIds, equations_at, earlier_of, bad_of, bad_in}
+use Rattle.rare_check.specs.inner.Judging.{IsJudged, earlier_of, equation_at, named_equations, bad_of, bad_in}
 use Rattle.rare_check.specs.Checking.{Progress}
 use Rattle.rare_check.specs.inner.Progress.{progress_of, progress, by_fault, unless_bad, with_place}
-use Rattle.rare_check.proofs.Judgements.{among_ids}
+use Rattle.rare_check.proofs.Naming.{named_push, named_kept}
+use Rattle.rare_check.proofs.Judgements.{places_within, concluded_length}
+use Rattle.rare_check.proofs.Listing.{there}
 
-not_used : (es : List Equation) (s : StatedStep) → step_fault es s ≡ None → is_among (ids_of es) s.id ≡ false
-not_used es s e = by (is_among (ids_of es) s.id) e
+-- ---- a proof with a step more, or with none
+
+-- the fault of a step that was not added
+pub invalid_is : (fault : Option StepFault) (e : AddError) (f : StepFault) → e ≡ Invalid f → Judges fault (Err e) → fault ≡ Some f
+invalid_is fault e f is h = subst (λ (x : AddError). Judges fault (Err x)) is h
+
+pub added_behind : (old : List Step) (s : Step) (new : List Step) (k : ℕ) → IsAddedAt old s new k → (more : List Step) × (new ≡ old ++ more)
+added_behind old s new k h = by (nat_lt k (length old)) refl
   where
-    by : (b : Bool) → (if b then Some IdUsed else rule_fault s (premises_of es s.premises)) ≡ None → b ≡ false
-    by true e = cc
-    by false e = refl
+    by : (b : Bool) → nat_lt k (length old) ≡ b → (more : List Step) × (new ≡ old ++ more)
+    by true e = ([], h.earlier ((Decides-ltb k (length old)).0 e) ∙ sym (append-nil old))
+    by false e = (s ∷ [], (h.last (λ lt. let t : nat_lt k (length old) ≡ true = (Decides-ltb k (length old)).1 lt in let f : true ≡ false = sym t ∙ e in cc)).1)
 
--- the id of a valid step is new
-pub new_id : (ts : List Tree) (ids : List (List ℕ)) (ss : List Sides) (s : StatedStep) → length ids ≡ length ss → step_fault (equations_at ts ids ss) s ≡ None → is_among ids s.id ≡ false
-new_id ts ids ss s n e = sym (among_ids ts ids ss s.id _ n refl) ∙ not_used (equations_at ts ids ss) s e
+concluded_more : (ts : List Tree) (old more : List Step) → concluded_by ts (old ++ more) ≡ concluded_by ts old ++ concluded_by ts more
+concluded_more ts old more = ap conclusions (map-append (stated_step ts) old more) ∙ map-append (λ s. s.concluded) (stated_steps ts old) (stated_steps ts more)
 
-pub equations_push : (ts : List Tree) (ids : List (List ℕ)) (ss : List Sides) (id : List ℕ) (s : Sides) → length ids ≡ length ss →
-    equations_at ts (ids ++ id ∷ []) (ss ++ s ∷ []) ≡ equations_at ts ids ss ++ record { id = id; left = tree_at ts s.left.0; right = tree_at ts s.right.0 } ∷ []
-equations_push ts [] [] id s n = refl
-equations_push ts [] (t ∷ ss) id s n = absurd (omega (arith, n))
-equations_push ts (i ∷ ids) [] id s n = absurd (omega (arith, n))
-equations_push ts (i ∷ ids) (t ∷ ss) id s n = ap (λ es. record { id = i; left = tree_at ts t.left.0; right = tree_at ts t.right.0 } ∷ es) (equations_push ts ids ss id s (omega (arith, n)))
+module _ (ts : List Tree) (old new : Judged) (more : List Step) (h : IsJudged ts old) (proof : new.proof ≡ old.proof ++ more) (over : IsProofOver ts new.proof) where
+  -- the equations under ids stay
+  named_stay : named_equations (concluded_by ts new.proof) old.ids old.places ≡ earlier_of ts old
+  named_stay =
+      ap (λ ss. named_equations (concluded_by ts ss) old.ids old.places) proof ∙ ap (λ es. named_equations es old.ids old.places) (concluded_more ts old.proof more)
+      ∙ named_kept (concluded_by ts old.proof) (concluded_by ts more) old.ids old.places (places_within ts old h)
 
--- a valid step is one equation more
-pub step_taken : (ts : List Tree) (problem : StatedProblem) (old new : Judged) (id : List ℕ) (s : Sides) (step : StatedStep) → IsJudged (length ts) old → old.bad ≡ None →
-    step_fault (earlier_of ts old) step ≡ None → step.id ≡ id → step.left ≡ tree_at ts s.left.0 → step.right ≡ tree_at ts s.right.0 →
-    new.ids ≡ old.ids ++ id ∷ [] → new.sides ≡ old.sides ++ s ∷ [] → new.concluded ≡ old.concluded → new.bad ≡ old.bad →
-    progress_of ts new ≡ progress problem (progress_of ts old) (Step step)
-step_taken ts problem old new id s step kept good fault same left right ids sides concluded bad =
-    let p = progress_of ts old in
-    let equation : Equation = record { id = step.id; left = step.left; right = step.right } in
-    let earlier : earlier_of ts new ≡ earlier_of ts old ++ equation ∷ [] =
-    (λ i. equations_at ts (ids i) (sides i)) ∙ equations_push ts old.ids old.sides id s kept.matched
-    ∙ (λ i. earlier_of ts old ++ record { id = sym same i; left = sym left i; right = sym right i } ∷ []) in
-    (λ i. record { earlier = earlier i; concluded = (concluded i).keys; bad = option_map bad_of (bad i) })
-    ∙ sym (ap (unless_bad problem p (Step step)) (ap (option_map bad_of) good) ∙ ap (by_fault problem p (Step step)) fault)
+  within_stay : All (λ k. k < length new.proof) old.places
+  within_stay = λ k d lt. let b = h.within k d lt in let n = ap length proof ∙ length-append old.proof more in omega (arith, n, b)
 
--- a bad command is the first that is bad
-pub bad_taken : (ts : List Tree) (problem : StatedProblem) (old new : Judged) (c : ProofCommand) (f : StepFault) → old.bad ≡ None → fault_of problem (earlier_of ts old) c ≡ Some f →
-    new.ids ≡ old.ids → new.sides ≡ old.sides → new.concluded ≡ old.concluded → new.bad ≡ Some (record { name = name_of c; fault = f }) →
-    progress_of ts new ≡ progress problem (progress_of ts old) c
-bad_taken ts problem old new c f good fault ids sides concluded bad =
-    let p = progress_of ts old in
-    (λ i. record { earlier = equations_at ts (ids i) (sides i); concluded = (concluded i).keys; bad = option_map bad_of (bad i) })
-    ∙ sym (ap (unless_bad problem p c) (ap (option_map bad_of) good) ∙ ap (by_fault problem p c) fault)
+  pub earlier_stay : new.ids ≡ old.ids → new.places ≡ old.places → earlier_of ts new ≡ earlier_of ts old
+  earlier_stay ids places = (λ i. named_equations (concluded_by ts new.proof) (ids i) (places i)) ∙ named_stay
 
-pub progress_same : (ts : List Tree) (old new : Judged) → new.ids ≡ old.ids → new.sides ≡ old.sides → new.concluded ≡ old.concluded → new.bad ≡ old.bad → progress_of ts new ≡ progress_of ts old
-progress_same ts old new ids sides concluded bad = λ i. record { earlier = equations_at ts (ids i) (sides i); concluded = (concluded i).keys; bad = option_map bad_of (bad i) }
+  pub judged_stay : new.ids ≡ old.ids → new.places ≡ old.places → IsJudged ts new
+  judged_stay ids places = record {
+    matched = ap length ids ∙ h.matched ∙ sym (ap length places);
+    within = (let P : List ℕ → Type 0 = λ ks. All (λ k. k < length new.proof) ks in subst P (sym places) within_stay);
+    proof = over;
+  }
 
-pub judged_same : (n : ℕ) (old new : Judged) → IsJudged n old → new.ids ≡ old.ids → new.sides ≡ old.sides → IsJudged n new
-judged_same n old new kept ids sides = record {
-  matched = ap length ids ∙ kept.matched ∙ sym (ap length sides);
-  terms = (let P : List Sides → Type 0 = λ xs. AreAllIds n xs in subst P (sym sides) kept.terms);
-}
+  pub earlier_push : (id : List ℕ) (k : ℕ) (e : Equation) → slice_get (concluded_by ts new.proof) k ≡ Some e → new.ids ≡ old.ids ++ id ∷ [] → new.places ≡ old.places ++ k ∷ [] →
+      earlier_of ts new ≡ earlier_of ts old ++ record { id = id; concluded = e } ∷ []
+  earlier_push id k e at ids places =
+      let es = concluded_by ts new.proof in
+      let one = (there es k (equation (tree_at [] 0) (tree_at [] 0)) e at).1 in
+      (λ i. named_equations es (ids i) (places i)) ∙ named_push es old.ids old.places id k h.matched
+      ∙ (λ i. named_stay i ++ record { id = id; concluded = one i } ∷ [])
 
-pub judged_push : (n : ℕ) (old new : Judged) (id : List ℕ) (s : Sides) → IsJudged n old → SidesAreIds n s → new.ids ≡ old.ids ++ id ∷ [] → new.sides ≡ old.sides ++ s ∷ [] → IsJudged n new
-judged_push n old new id s kept within ids sides = record {
-  matched = ap length ids ∙ length-append old.ids (id ∷ []) ∙ ap (λ k. k + 1) kept.matched ∙ sym (length-append old.sides (s ∷ [])) ∙ ap length (sym sides);
-  terms = (let P : List Sides → Type 0 = λ xs. AreAllIds n xs in subst P (sym sides) (All-push (SidesAreIds n) old.sides s kept.terms within));
-}
+  pub judged_push : (id : List ℕ) (k : ℕ) (e : Equation) → slice_get (concluded_by ts new.proof) k ≡ Some e → new.ids ≡ old.ids ++ id ∷ [] → new.places ≡ old.places ++ k ∷ [] → IsJudged ts new
+  judged_push id k e at ids places =
+      let es = concluded_by ts new.proof in
+      let lt = (there es k (equation (tree_at [] 0) (tree_at [] 0)) e at).0 in
+      let n = concluded_length ts new.proof in
+      record {
+        matched = ap length ids ∙ length-append old.ids (id ∷ []) ∙ ap (λ k. k + 1) h.matched ∙ sym (length-append old.places (k ∷ [])) ∙ ap length (sym places);
+        within = (let P : List ℕ → Type 0 = λ ks. All (λ k. k < length new.proof) ks in subst P (sym places) (All-push (λ j. j < length new.proof) old.places k within_stay (omega (arith, n, lt))));
+        proof = over;
+      }
 
--- ---- conclusions
+  pub progress_stay : new.ids ≡ old.ids → new.places ≡ old.places → new.concluded ≡ old.concluded → new.bad ≡ old.bad → progress_of ts new ≡ progress_of ts old
+  progress_stay ids places concluded bad = λ i. record { earlier = earlier_stay ids places i; concluded = (concluded i).keys; bad = option_map bad_of (bad i) }
 
-pub place_is : (ts : List Tree) (rs : List Rewrite) (name : List ℕ) → rewrite_place (map (stated_rewrite ts) rs) name ≡ position (bytes_eq name) (map (λ r. r.name) rs)
-place_is ts rs name = ap (position (bytes_eq name)) (names_stated ts rs)
+  -- a valid step is one equation more
+  pub step_taken : (rewrites : List StatedRewrite) (k : ℕ) (s : NamedStep) → old.bad ≡ None → named_step_fault (earlier_of ts old) s ≡ None → slice_get (concluded_by ts new.proof) k ≡ Some s.concluded →
+      new.ids ≡ old.ids ++ s.id ∷ [] → new.places ≡ old.places ++ k ∷ [] → new.concluded ≡ old.concluded → new.bad ≡ old.bad → progress_of ts new ≡ progress rewrites (progress_of ts old) (text.Step s)
+  step_taken rewrites k s good fault at ids places concluded bad =
+      let p = progress_of ts old in
+      (λ i. record { earlier = earlier_push s.id k s.concluded at ids places i; concluded = (concluded i).keys; bad = option_map bad_of (bad i) })
+      ∙ sym (ap (unless_bad rewrites p (text.Step s)) (ap (option_map bad_of) good) ∙ ap (by_fault rewrites p (text.Step s)) fault)
 
-pub sides_are : (ts : List Tree) (rs : List Rewrite) (k : ℕ) (r : Rewrite) → slice_get rs k ≡ Some r → rewrite_sides (map (stated_rewrite ts) rs) (Some k) ≡ Some (tree_at ts r.left.0, tree_at ts r.right.0)
-sides_are ts [] k r e = absurd (none-some r e)
-sides_are ts (x ∷ rs) zero r e = let same = same_Some x r e in λ i. Some (tree_at ts (same i).left.0, tree_at ts (same i).right.0)
-sides_are ts (x ∷ rs) (suc k) r e = sides_are ts rs k r e
+  -- a bad command is the first that is bad
+  pub bad_taken : (rewrites : List StatedRewrite) (c : ProofCommand) (f : StepFault) → old.bad ≡ None → fault_of rewrites (earlier_of ts old) c ≡ Some f →
+      new.ids ≡ old.ids → new.places ≡ old.places → new.concluded ≡ old.concluded → new.bad ≡ Some (record { name = name_of c; fault = f }) → progress_of ts new ≡ progress rewrites (progress_of ts old) c
+  bad_taken rewrites c f good fault ids places concluded bad =
+      let p = progress_of ts old in
+      (λ i. record { earlier = earlier_stay ids places i; concluded = (concluded i).keys; bad = option_map bad_of (bad i) })
+      ∙ sym (ap (unless_bad rewrites p c) (ap (option_map bad_of) good) ∙ ap (by_fault rewrites p c) fault)
 
--- what fails for a rewrite at a place, and for none
-pub fault_at : (ts : List Tree) (rs : List Rewrite) (earlier : List Equation) (name id : List ℕ) (k : ℕ) (r : Rewrite) → position (bytes_eq name) (map (λ r. r.name) rs) ≡ Some k → slice_get rs k ≡ Some r →
-    conclusion_fault (map (stated_rewrite ts) rs) earlier name id ≡ equation_fault (Some (tree_at ts r.left.0, tree_at ts r.right.0)) (sides_named earlier id)
-fault_at ts rs earlier name id k r place at =
-    ap (λ s. equation_fault s (sides_named earlier id)) (ap (rewrite_sides (map (stated_rewrite ts) rs)) (place_is ts rs name ∙ place) ∙ sides_are ts rs k r at)
+-- nothing is added
+pub same_proof : (old new : Judged) → new.proof ≡ old.proof → new.proof ≡ old.proof ++ []
+same_proof old new e = e ∙ sym (append-nil old.proof)
 
-pub fault_nowhere : (ts : List Tree) (rs : List Rewrite) (earlier : List Equation) (name id : List ℕ) → position (bytes_eq name) (map (λ r. r.name) rs) ≡ None →
-    conclusion_fault (map (stated_rewrite ts) rs) earlier name id ≡ Some NoSuchRewrite
-fault_nowhere ts rs earlier name id place =
-    ap (λ p. equation_fault (rewrite_sides (map (stated_rewrite ts) rs) p) (sides_named earlier id)) (place_is ts rs name ∙ place)
+pub over_same : (ts : List Tree) (old new : Judged) → IsJudged ts old → new.proof ≡ old.proof → IsProofOver ts new.proof
+over_same ts old new h e = let P : List Step → Type 0 = λ ss. IsProofOver ts ss in subst P (sym e) h.proof
 
-pub conclusion_taken : (ts : List Tree) (problem : StatedProblem) (old : Judged) (name id : List ℕ) (k : ℕ) (keys : List ℕ) → old.bad ≡ None →
-    conclusion_fault problem.rewrites (earlier_of ts old) name id ≡ None → rewrite_place problem.rewrites name ≡ Some k → keys ≡ with_place old.concluded.keys (Some k) →
-    ◌≡◌ {A = Progress} (record { earlier = earlier_of ts old; concluded = keys; bad = bad_in old }) (progress problem (progress_of ts old) (Conclude name id))
-conclusion_taken ts problem old name id k keys good fault place same =
+-- a definition changes no progress
+pub definition_taken : (ts : List Tree) (rewrites : List StatedRewrite) (j : Judged) (name : List ℕ) (t : Tree) → j.bad ≡ None → progress_of ts j ≡ progress rewrites (progress_of ts j) (Define name t)
+definition_taken ts rewrites j name t good =
+    let p = progress_of ts j in
+    (λ i. record { earlier = sym (append-nil (earlier_of ts j)) i; concluded = j.concluded.keys; bad = bad_in j })
+    ∙ sym (ap (unless_bad rewrites p (Define name t)) (ap (option_map bad_of) good))
+
+-- behind a bad command nothing counts
+pub bad_stands : (ts : List Tree) (rewrites : List StatedRewrite) (j : Judged) (c : ProofCommand) → (j.bad ≡ None → ⊥) → progress_of ts j ≡ progress rewrites (progress_of ts j) c
+bad_stands ts rewrites j c bad = by j.bad refl
+  where
+    by : (b : _) → j.bad ≡ b → progress_of ts j ≡ progress rewrites (progress_of ts j) c
+    by None e = absurd (bad e)
+    by (Some b) e = sym (ap (unless_bad rewrites (progress_of ts j) c) (ap (option_map bad_of) e))
+
+pub conclusion_taken : (ts : List Tree) (rewrites : List StatedRewrite) (old : Judged) (name id : List ℕ) (k : ℕ) (keys : List ℕ) → old.bad ≡ None →
+    conclusion_fault rewrites (earlier_of ts old) name id ≡ None → rewrite_place rewrites name ≡ Some k → keys ≡ with_place old.concluded.keys (Some k) →
+    ◌≡◌ {A = Progress} (record { earlier = earlier_of ts old; concluded = keys; bad = bad_in old }) (progress rewrites (progress_of ts old) (Conclude name id))
+conclusion_taken ts rewrites old name id k keys good fault place same =
     let p = progress_of ts old in
     (λ i. record { earlier = sym (append-nil (earlier_of ts old)) i; concluded = (same ∙ ap (with_place old.concluded.keys) (sym place)) i; bad = bad_in old })
-    ∙ sym (ap (unless_bad problem p (Conclude name id)) (ap (option_map bad_of) good) ∙ ap (by_fault problem p (Conclude name id)) fault)
-
-pub ids_of_rewrite : (n : ℕ) (rs : List Rewrite) (k : ℕ) (r : Rewrite) → HaveIds n rs → slice_get rs k ≡ Some r → (r.left.0 < n) × (r.right.0 < n)
-ids_of_rewrite n [] k r h e = absurd (none-some r e)
-ids_of_rewrite n (x ∷ rs) zero r h e =
-    let P : Rewrite → Type 0 = λ y. (y.left.0 < n) × (y.right.0 < n) in subst P (same_Some x r e) (All-head (λ y. (y.left.0 < n) × (y.right.0 < n)) x rs h)
-ids_of_rewrite n (x ∷ rs) (suc k) r h e = ids_of_rewrite n rs k r (All-tail (λ y. (y.left.0 < n) × (y.right.0 < n)) x rs h) e
+    ∙ sym (ap (unless_bad rewrites p (Conclude name id)) (ap (option_map bad_of) good) ∙ ap (by_fault rewrites p (Conclude name id)) fault)

@@ -5,29 +5,31 @@ use Rattle.std.proofs.Math.Bool.{or-false, or_assoc}
 use Rattle.std.proofs.lemmas.Bool.{eqb-true}
 use Rattle.std.proofs.lemmas.Bool.Decides.{same_from_decides, Decides-eqb}
 use Rattle.std.proofs.lemmas.List.Folds.{list_any-append}
+use Rattle.std.proofs.lemmas.Option.{none-some, same_Some}
 use Rattle.rare_base.specs.declared.answers.Fault.{Fault}
-use Rattle.rare_base.specs.Answers.{Refusal, unread_at}
+use Rattle.rare_base.specs.declared.answers.Fault.TheVariants as fault
+use Rattle.rare_base.specs.Answers.{Refusal}
 use Rattle.rare_sexpr.specs.declared.tree.Sexpr.{Sexpr}
-use Rattle.rare_sexpr.specs.Tree.{items_of, place_of}
 use Rattle.rare_sexpr.specs.Commands.{Commands, put_first}
-use Rattle.rare_check.specs.declared.steps.StepFault.{StepFault}
-use Rattle.rare_check.specs.declared.report.Report.{Report}
-use Rattle.rare_check.specs.declared.report.Verdict.{Verdict}
-use Rattle.rare_check.specs.declared.report.Verdict.TheVariants.{Valid}
-use Rattle.rare_check.specs.ProblemText.{StatedProblem, StatedRewrite, go_on}
-use Rattle.rare_check.specs.ProofText.{ProofCommand, Step, Conclude, proof_command, proof_from, behind}
-use Rattle.rare_check.specs.Steps.{rewrite_place}
-use Rattle.rare_check.specs.Verdicts.{Bad, fault_of, equations_of, bad_or, first_bad, is_place, concludes, verdict_by, report_by, on_proof, ValidAreTrue}
-use Rattle.rare_check.specs.Checking.{Progress, bad_after, verdicts_with, report_with, answer_from, Refuses}
-use Rattle.rare_check.specs.inner.Progress.{progress, unless_bad, by_fault, concluded_after, with_place}
-use Rattle.rare_check.specs.TermText.{declared_by}
-use Rattle.rare_check.specs.inner.Truth.{IsSound}
-use Rattle.rare_check.proofs.Listing.{head_drop}
 use Rattle.rare_sort.specs.declared.declarations.Declarations.{Declarations}
 use Rattle.rare_meaning.specs.Interpretations.{AnyFunctions}
 use Rattle.rare_meaning.specs.TrueRewrite.{IsTrueRewrite}
 use Rattle.rare_meaning.proofs.RewriteLemmas.{same_is_true}
-use Rattle.std.proofs.lemmas.Option.{none-some, same_Some}
+use Rattle.rare_scope.specs.Answers.{Fails}
+use Rattle.rare_scope.specs.Names.{Names}
+use Rattle.rare_scope.specs.Reading.{Read, go_on}
+use Rattle.rare_text.specs.Problems.{StatedProblem, StatedRewrite}
+use Rattle.rare_proof.specs.declared.fault.StepFault.{StepFault}
+use Rattle.rare_proof_text.specs.ProofText.{proof_command, proof_from}
+use Rattle.rare_proof_text.specs.ProofCommands.{ProofCommand, Define, Step, Conclude, names_behind}
+use Rattle.rare_check.specs.declared.report.Report.{Report}
+use Rattle.rare_check.specs.declared.report.Verdict.{Verdict}
+use Rattle.rare_check.specs.declared.report.Verdict.TheVariants.{Valid}
+use Rattle.rare_check.specs.Verdicts.{Bad, fault_of, added_by, bad_or, first_bad, is_place, concludes, rewrite_place, verdict_by, report_by, on_proof, ValidAreTrue}
+use Rattle.rare_check.specs.Checking.{Progress, bad_after, verdicts_with, report_with, answer_from, Refuses}
+use Rattle.rare_check.specs.inner.Progress.{progress, unless_bad, by_fault, concluded_after, with_place}
+use Rattle.rare_check.specs.inner.Truth.{PlacesAreTrue}
+use Rattle.rare_check.proofs.Listing.{head_drop}
 
 -- ---- one command more
 
@@ -61,6 +63,7 @@ place_more k ks (Some j) = by (list_any (nat_eq j) ks) refl
 module _ (rewrites : List StatedRewrite) (concluded : List ℕ) (c : ProofCommand) (cs : List ProofCommand) where
   place_any : (k : ℕ) → (d : ProofCommand) → (list_any (nat_eq k) concluded || (concludes rewrites k d || list_any (concludes rewrites k) cs))
       ≡ (list_any (nat_eq k) (concluded_after rewrites concluded d) || list_any (concludes rewrites k) cs)
+  place_any k (Define name t) = refl
   place_any k (Step s) = refl
   place_any k (Conclude name id) =
       sym (or_assoc (list_any (nat_eq k) concluded) (is_place (rewrite_place rewrites name) k) (list_any (concludes rewrites k) cs))
@@ -70,39 +73,45 @@ module _ (rewrites : List StatedRewrite) (concluded : List ℕ) (c : ProofComman
   verdicts_more k [] = refl
   verdicts_more k (r ∷ rs) = let first = ap verdict_by (place_any k c) in let rest = verdicts_more (suc k) rs in λ i. first i ∷ rest i
 
-module _ (problem : StatedProblem) where
+module _ (rewrites : List StatedRewrite) where
   -- a command more is the next one
-  advance : (p : Progress) (c : ProofCommand) (cs : List ProofCommand) → report_with problem p (c ∷ cs) ≡ report_with problem (progress problem p c) cs
+  advance : (p : Progress) (c : ProofCommand) (cs : List ProofCommand) → report_with rewrites p (c ∷ cs) ≡ report_with rewrites (progress rewrites p c) cs
   advance p c cs = by p.bad refl
     where
-      faults : (f : Option StepFault) → p.bad ≡ None → fault_of problem p.earlier c ≡ f →
-          report_by (bad_or c f (first_bad problem (p.earlier ++ equations_of c) cs)) (verdicts_with problem.rewrites p.concluded (c ∷ cs) 0 problem.rewrites)
-          ≡ report_with problem (by_fault problem p c f) cs
+      faults : (f : Option StepFault) → p.bad ≡ None → fault_of rewrites p.earlier c ≡ f →
+          report_by (bad_or c f (first_bad rewrites (p.earlier ++ added_by c) cs)) (verdicts_with rewrites p.concluded (c ∷ cs) 0 rewrites)
+          ≡ report_with rewrites (by_fault rewrites p c f) cs
       faults (Some f) good e = refl
       faults None good e =
-          ap (report_by (first_bad problem (p.earlier ++ equations_of c) cs)) (verdicts_more problem.rewrites p.concluded c cs 0 problem.rewrites)
-          ∙ ap (λ b. report_by (bad_after b (first_bad problem (p.earlier ++ equations_of c) cs)) (verdicts_with problem.rewrites (concluded_after problem.rewrites p.concluded c) cs 0 problem.rewrites)) (sym good)
+          ap (report_by (first_bad rewrites (p.earlier ++ added_by c) cs)) (verdicts_more rewrites p.concluded c cs 0 rewrites)
+          ∙ ap (λ b. report_by (bad_after b (first_bad rewrites (p.earlier ++ added_by c) cs)) (verdicts_with rewrites (concluded_after rewrites p.concluded c) cs 0 rewrites)) (sym good)
 
-      by : (b : Option Bad) → p.bad ≡ b → report_with problem p (c ∷ cs) ≡ report_with problem (progress problem p c) cs
+      by : (b : Option Bad) → p.bad ≡ b → report_with rewrites p (c ∷ cs) ≡ report_with rewrites (progress rewrites p c) cs
       by (Some bad) e =
-          ap (λ b. report_by (bad_after b (first_bad problem p.earlier (c ∷ cs))) (verdicts_with problem.rewrites p.concluded (c ∷ cs) 0 problem.rewrites)) e
-          ∙ sym (ap (λ q. report_with problem q cs) (ap (unless_bad problem p c) e)
-          ∙ ap (λ b. report_by (bad_after b (first_bad problem p.earlier cs)) (verdicts_with problem.rewrites p.concluded cs 0 problem.rewrites)) e)
+          ap (λ b. report_by (bad_after b (first_bad rewrites p.earlier (c ∷ cs))) (verdicts_with rewrites p.concluded (c ∷ cs) 0 rewrites)) e
+          ∙ sym (ap (λ q. report_with rewrites q cs) (ap (unless_bad rewrites p c) e)
+          ∙ ap (λ b. report_by (bad_after b (first_bad rewrites p.earlier cs)) (verdicts_with rewrites p.concluded cs 0 rewrites)) e)
       by None e =
-          ap (λ b. report_by (bad_after b (first_bad problem p.earlier (c ∷ cs))) (verdicts_with problem.rewrites p.concluded (c ∷ cs) 0 problem.rewrites)) e
-          ∙ faults (fault_of problem p.earlier c) e refl
-          ∙ sym (ap (λ q. report_with problem q cs) (ap (unless_bad problem p c) e))
+          ap (λ b. report_by (bad_after b (first_bad rewrites p.earlier (c ∷ cs))) (verdicts_with rewrites p.concluded (c ∷ cs) 0 rewrites)) e
+          ∙ faults (fault_of rewrites p.earlier c) e refl
+          ∙ sym (ap (λ q. report_with rewrites q cs) (ap (unless_bad rewrites p c) e))
 
   -- a command that was read, and the answer with the commands behind it
-  pub one_more : (p q : Progress) (e : Sexpr) (c : ProofCommand) (rest : Commands) → proof_command problem.names (items_of e) ≡ Some c → q ≡ progress problem p c →
-      answer_from problem p (put_first e rest) ≡ answer_from problem q rest
-  one_more p q e c rest some same =
-      ap (on_proof (report_with problem p)) (ap (λ m. go_on m (unread_at (place_of e)) (λ d. behind d (proof_from problem.names rest.list rest.fault))) some)
-      ∙ by (proof_from problem.names rest.list rest.fault) ∙ ap (λ r. answer_from problem r rest) (sym same)
+  pub one_more : (d : Declarations) (names : Names) (p q : Progress) (e : Sexpr) (c : ProofCommand) (rest : Commands) → proof_command d names e ≡ Ok c → q ≡ progress rewrites p c →
+      answer_from d rewrites names p (put_first e rest) ≡ answer_from d rewrites (names_behind names c) q rest
+  one_more d names p q e c rest is same =
+      ap (λ m. on_proof (report_with rewrites p) (go_on m (λ b. go_on (proof_from d (names_behind names b) rest.list rest.fault) (λ cs. Ok (b ∷ cs))))) is
+      ∙ by (proof_from d (names_behind names c) rest.list rest.fault) ∙ ap (λ r. answer_from d rewrites (names_behind names c) r rest) (sym same)
     where
-      by : (r : Result (List ProofCommand) Refusal) → on_proof (report_with problem p) (behind c r) ≡ on_proof (report_with problem (progress problem p c)) r
+      by : (r : Read (List ProofCommand)) → on_proof (report_with rewrites p) (go_on r (λ cs. Ok (c ∷ cs))) ≡ on_proof (report_with rewrites (progress rewrites p c)) r
       by (Ok cs) = ap Ok (advance p c cs)
       by (Err f) = refl
+
+  -- a command that is refused
+  pub one_refused : (d : Declarations) (names : Names) (p : Progress) (e : Sexpr) (rest : Commands) (f : Fault) → Fails f (proof_command d names e) → Refuses f (answer_from d rewrites names p (put_first e rest))
+  one_refused d names p e rest (fault.Refused place reason) h =
+      ap (λ m. on_proof (report_with rewrites p) (go_on m (λ b. go_on (proof_from d (names_behind names b) rest.list rest.fault) (λ cs. Ok (b ∷ cs))))) h
+  one_refused d names p e rest fault.Memory h = tt
 
 -- ---- a refusal, with the bytes that follow
 
@@ -133,15 +142,14 @@ verdict_at all concluded (r ∷ rs) j zero e = let n : j ≡ j + 0 = omega arith
 verdict_at all concluded (r ∷ rs) j (suc k) e = let n : suc j + k ≡ j + suc k = omega arith in ap (λ i. list_any (nat_eq i) concluded) (sym n) ∙ verdict_at all concluded rs (suc j) k e
 
 -- where all that is concluded is true, so is each rewrite with the verdict valid
-pub valid_true : (declared : Declarations) (problem : StatedProblem) (p : Progress) → declared ≡ declared_by problem.names → IsSound declared problem.rewrites p → ValidAreTrue problem (report_with problem p [])
-valid_true declared problem p same h = by p.bad
+pub valid_true : (problem : StatedProblem) (p : Progress) → PlacesAreTrue problem.declared problem.rewrites p.concluded → ValidAreTrue problem (report_with problem.rewrites p [])
+valid_true problem p h = by p.bad
   where
     by : (b : Option Bad) → ValidAreTrue problem (report_by (bad_after b None) (verdicts_with problem.rewrites p.concluded [] 0 problem.rewrites))
     by (Some bad) = tt
     by None = λ k r at v.
-        let P : Declarations → Type 0 = λ d. IsTrueRewrite AnyFunctions d r.left r.right in
         let n : 0 + k ≡ k = omega arith in
-        subst P same (same_is_true AnyFunctions declared r.left r.right (h.places k r (ap (λ i. list_any (nat_eq i) p.concluded) (sym n) ∙ verdict_at problem.rewrites p.concluded problem.rewrites 0 k v) at))
+        same_is_true AnyFunctions problem.declared r.left r.right (h k r (ap (λ i. list_any (nat_eq i) p.concluded) (sym n) ∙ verdict_at problem.rewrites p.concluded problem.rewrites 0 k v) at)
 
 pub refused_as : (r : Result Report Fault) (x f : Fault) (A B : Result Report Refusal) → r ≡ Err x → x ≡ f → Refuses f A → A ≡ B → IfErr r (λ fault. Refuses fault B)
 refused_as r x f A B e g h same =

@@ -1,13 +1,9 @@
-pub mod Naming
 pub mod Listing
 pub mod Growing
-pub mod Soundness
-pub mod Spelling
-pub mod Problems
-pub mod CommandForms
+pub mod Naming
 pub mod Judgements
 pub mod Advancing
+pub mod Soundness
 pub mod Answering
 pub mod Holding
 pub mod Starting
-pub mod StepParts

@@ -1,21 +1,10 @@
 -- Lists by their items.
-use Rattle.std.proofs.Common.{◌≡◌, ℕ, zero, suc, ◌+◌, ◌<◌, ◌++◌, take, drop, List, [], ◌∷◌, length, slice_get, Some, refl, ap, ◌∙◌, arith}
+use Rattle.std.proofs.Common.{◌≡◌, ℕ, zero, suc, ◌+◌, ◌<◌, ◌≤◌, ◌++◌, take, drop, List, [], ◌∷◌, length, slice_get, get_or, map, Option, Some, None, refl, ap, sym, ◌∙◌, arith}
+use Rattle.std.specs.Option.{option_map}
 use Rattle.std.proofs.lemmas.Option.{none-some, same_Some}
+use Rattle.rare_sort.specs.Sorting.{all_of}
 
 module _ {A : Type 0} where
-  pub items_three : (xs : List A) (a b c : A) → length xs ≡ 3 → slice_get xs 0 ≡ Some a → slice_get xs 1 ≡ Some b → slice_get xs 2 ≡ Some c → xs ≡ a ∷ b ∷ c ∷ []
-  items_three [] a b c n ga gb gc = absurd (omega (arith, n))
-  items_three (x ∷ []) a b c n ga gb gc = absurd (omega (arith, n))
-  items_three (x ∷ y ∷ []) a b c n ga gb gc = absurd (omega (arith, n))
-  items_three (x ∷ y ∷ z ∷ []) a b c n ga gb gc =
-      let p = same_Some x a ga in let q = same_Some y b gb in let r = same_Some z c gc in λ i. p i ∷ q i ∷ r i ∷ []
-  items_three (x ∷ y ∷ z ∷ u ∷ us) a b c n ga gb gc = absurd (omega (arith, n))
-
-  pub items_four : (xs : List A) (a b c d : A) → length xs ≡ 4 → slice_get xs 0 ≡ Some a → slice_get xs 1 ≡ Some b → slice_get xs 2 ≡ Some c → slice_get xs 3 ≡ Some d → xs ≡ a ∷ b ∷ c ∷ d ∷ []
-  items_four [] a b c d n ga gb gc gd = absurd (omega (arith, n))
-  items_four (x ∷ xs) a b c d n ga gb gc gd =
-      let p = same_Some x a ga in let rest = items_three xs b c d (omega (arith, n)) gb gc gd in λ i. p i ∷ rest i
-
   -- a list at a place that it has
   pub split_at : (xs : List A) (k : ℕ) (y : A) → slice_get xs k ≡ Some y → xs ≡ take k xs ++ y ∷ drop (suc k) xs
   split_at [] k y is = absurd (none-some y is)
@@ -37,3 +26,30 @@ module _ {A : Type 0} where
       first [] k lt = absurd (omega (arith, lt))
       first (x ∷ xs) zero lt = (x, refl)
       first (x ∷ xs) (suc k) lt = first xs k (omega (arith, lt))
+
+  -- an item that is there, by its place
+  pub there : (xs : List A) (k : ℕ) (d x : A) → slice_get xs k ≡ Some x → (k < length xs) × (get_or xs k d ≡ x)
+  there [] k d x is = absurd (none-some x is)
+  there (y ∷ xs) zero d x is = (omega arith, same_Some y x is)
+  there (y ∷ xs) (suc k) d x is = let r = there xs k d x is in (omega (arith, r.0), r.1)
+
+  -- ---- all of some options
+
+  some_first : (x : A) (os : List (Option A)) (ys : List A) → all_of (Some x ∷ os) ≡ Some ys → (zs : List A) × (all_of os ≡ Some zs) × (ys ≡ x ∷ zs)
+  some_first x os ys e = by (all_of os) refl e
+    where
+      by : (o : Option (List A)) → all_of os ≡ o → option_map (λ xs. x ∷ xs) o ≡ Some ys → (zs : List A) × (all_of os ≡ Some zs) × (ys ≡ x ∷ zs)
+      by None n e = absurd (none-some ys e)
+      by (Some zs) n e = (zs, n, sym (same_Some (x ∷ zs) ys e))
+
+  pub all_push : (os : List (Option A)) (x : A) (xs : List A) → all_of os ≡ Some xs → all_of (os ++ Some x ∷ []) ≡ Some (xs ++ x ∷ [])
+  all_push [] x xs e = ap (λ ys. Some (ys ++ x ∷ [])) (same_Some [] xs e)
+  all_push (None ∷ os) x xs e = absurd (none-some xs e)
+  all_push (Some y ∷ os) x xs e =
+      let f = some_first y os xs e in
+      ap (option_map (λ ys. y ∷ ys)) (all_push os x f.0 f.1) ∙ ap (λ ys. Some (ys ++ x ∷ [])) (sym f.2)
+
+  pub all_fail : (os more : List (Option A)) → all_of (os ++ None ∷ more) ≡ None
+  all_fail [] more = refl
+  all_fail (None ∷ os) more = refl
+  all_fail (Some y ∷ os) more = ap (option_map (λ ys. y ∷ ys)) (all_fail os more)

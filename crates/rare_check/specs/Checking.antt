@@ -3,20 +3,24 @@ use Rattle.std.specs.Prelude.{◌≡◌, ℕ, suc, ◌||◌, nat_eq, List, [], �
 use Rattle.std.specs.List.{list_any}
 use Rattle.rare_base.specs.declared.answers.Fault.{Fault}
 use Rattle.rare_base.specs.declared.answers.Fault.TheVariants as fault
-use Rattle.rare_base.specs.Answers.{Refusal}
 use Rattle.rare_sexpr.specs.Commands.{Commands}
 use Rattle.rare_sexpr.specs.Streams.{Stream, new_stream, commands_left}
+use Rattle.rare_sort.specs.declared.declarations.Declarations.{Declarations}
+use Rattle.rare_scope.specs.Names.{Names}
+use Rattle.rare_scope.specs.Reading.{Read}
+use Rattle.rare_text.specs.Problems.{StatedProblem, StatedRewrite}
+use Rattle.rare_proof_text.specs.ProofText.{proof_from}
+use Rattle.rare_proof_text.specs.ProofCommands.{ProofCommand}
 use Rattle.rare_check.specs.declared.report.Report.{Report}
 use Rattle.rare_check.specs.declared.report.Verdict.{Verdict}
-use Rattle.rare_check.specs.ProblemText.{StatedProblem, StatedRewrite}
-use Rattle.rare_check.specs.ProofText.{ProofCommand, proof_from}
-use Rattle.rare_check.specs.Steps.{Equation}
-use Rattle.rare_check.specs.Verdicts.{Bad, first_bad, concludes, verdict_by, report_by, on_proof}
+use Rattle.rare_check.specs.Verdicts.{Bad, NamedEquation, first_bad, concludes, verdict_by, report_by, on_proof}
 
 pub record Checking : Type 0 where
   pub problem : StatedProblem
+  -- the names so far: those of the problem, and those that the proof defines
+  pub names : Names
   -- the equations that the steps so far conclude
-  pub earlier : List Equation
+  pub earlier : List NamedEquation
   -- the places of the rewrites that are concluded
   pub concluded : List ℕ
   -- the first command that is not valid
@@ -27,13 +31,17 @@ pub record Checking : Type 0 where
   pub stopped : Option Fault
 
 abbrev pub start : StatedProblem → Checking
-start problem = record { problem = problem; earlier = []; concluded = []; bad = None; left = new_stream; stopped = None }
+start problem =
+    record { problem = problem; names = problem.names; earlier = []; concluded = []; bad = None; left = new_stream; stopped = None }
 
 -- the equations that are concluded, the places of the rewrites that are, and the first command that is not valid
 pub record Progress : Type 0 where
-  pub earlier : List Equation
+  pub earlier : List NamedEquation
   pub concluded : List ℕ
   pub bad : Option Bad
+
+abbrev pub progress_in : Checking → Progress
+progress_in c = record { earlier = c.earlier; concluded = c.concluded; bad = c.bad }
 
 -- the verdicts from place k on, where the rewrites at some places are concluded already
 abbrev pub verdicts_with : List StatedRewrite → List ℕ → List ProofCommand → ℕ → List StatedRewrite → List Verdict
@@ -46,24 +54,25 @@ bad_after None later = later
 bad_after (Some bad) later = Some bad
 
 -- the report on a proof that has come so far, with these commands behind those before
-abbrev pub report_with : StatedProblem → Progress → List ProofCommand → Report
-report_with problem p commands =
-    report_by (bad_after p.bad (first_bad problem p.earlier commands)) (verdicts_with problem.rewrites p.concluded commands 0 problem.rewrites)
+abbrev pub report_with : List StatedRewrite → Progress → List ProofCommand → Report
+report_with rewrites p commands =
+    report_by (bad_after p.bad (first_bad rewrites p.earlier commands)) (verdicts_with rewrites p.concluded commands 0 rewrites)
 
-abbrev pub answer_from : StatedProblem → Progress → Commands → Result Report Refusal
-answer_from problem p commands = on_proof (report_with problem p) (proof_from problem.names commands.list commands.fault)
+-- the answer with these commands, which are read over the names so far
+abbrev pub answer_from : Declarations → List StatedRewrite → Names → Progress → Commands → Read Report
+answer_from d rewrites names p commands = on_proof (report_with rewrites p) (proof_from d names commands.list commands.fault)
 
-abbrev pub unless_stopped : Option Fault → Result Report Refusal → Result Report Refusal
+abbrev pub unless_stopped : Option Fault → Read Report → Read Report
 unless_stopped None answer = answer
 unless_stopped (Some fault.Memory) answer = answer
 unless_stopped (Some (fault.Refused place reason)) answer = Err (record { place = place; reason = reason })
 
 -- the report or the fault that a checker gives with these bytes behind those before
-abbrev pub answer : Checking → List ℕ → Result Report Refusal
+abbrev pub answer : Checking → List ℕ → Read Report
 answer c rest =
-    unless_stopped c.stopped (answer_from c.problem (record { earlier = c.earlier; concluded = c.concluded; bad = c.bad }) (commands_left c.left rest))
+    unless_stopped c.stopped (answer_from c.problem.declared c.problem.rewrites c.names (progress_in c) (commands_left c.left rest))
 
 -- a fault is the one that is answered; want of memory is free
-abbrev pub Refuses : Fault → Result Report Refusal → Type 0
+abbrev pub Refuses : Fault → Read Report → Type 0
 Refuses fault.Memory answer = Unit {0}
 Refuses (fault.Refused place reason) answer = answer ≡ Err (record { place = place; reason = reason })

@@ -1,11 +1,3 @@
-pub mod Names
-pub mod Forms
-pub mod TermText
-pub mod ProblemText
-pub mod ProofText
-pub mod Steps
-pub mod Words
 pub mod Verdicts
-pub mod Stated
 pub mod Checking
 pub mod inner

@@ -1,6 +1,4 @@
-pub mod Answered
+pub mod Judging
 pub mod Progress
 pub mod Truth
-pub mod Judging
-pub mod CommandsRead
 pub mod Kept

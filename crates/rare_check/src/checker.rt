@@ -1,31 +1,33 @@
 //! A checker of a proof that comes in pieces.
 ghost use Rattle.std.specs.Prelude.{◌≡◌, ◌+◌, ◌-◌, ◌^◌, ◌≤◌, ◌++◌, List, [], ℕ, length, Some, None, IfOk, IfErr, IfSome, OnOk, Ok, Err};
-ghost use Rattle.rare_check.specs.TermText.{declared_by};
-ghost use Rattle.rare_check.specs.Stated.{stated, HaveIds};
+ghost use Rattle.rare_scope.specs.Names.{AreMeant};
+ghost use Rattle.rare_text.specs.Stated.{HaveIds, stated_problem};
 ghost use Rattle.rare_check.specs.Checking.{start, answer, Refuses};
 ghost use Rattle.rare_check.specs.Verdicts.{ValidAreTrue, checked};
 
 use crate::checking::take_commands;
 use crate::judged::Judged;
-use crate::problem::Problem;
 use crate::report::Report;
 use crate::reporting::report_of;
 use rare_base::Fault;
 use rare_sexpr::Reader;
 use rare_term::Terms;
+use rare_text::Problem;
 use std::alloc::Global;
 use std::marker::Model;
 
 /// Checks the proof of a problem, which comes in pieces of any size.
 ///
-/// Contracts see what it holds: the problem, the equations that the steps so far conclude, which
-/// rewrites are concluded, the first command that is not valid, the bytes that are not yet taken, and
-/// the fault that stands.
+/// Contracts see what it holds: the problem, the names so far, the equations that the steps so far
+/// conclude, which rewrites are concluded, the first command that is not valid, the bytes that are not
+/// yet taken, and the fault that stands.
 #[derive(Drop)]
 pub struct Checker<T: Terms> {
     alloc: Global,
     terms: T,
     problem: Problem,
+    // How many names the problem has before the proof.
+    known: usize,
     judged: Judged,
     reader: Reader,
     stopped: Option<Fault>,
@@ -35,15 +37,16 @@ impl<T: Terms> Model for Checker<T> {
     ghost use Rattle.rare_check.specs.Checking.{Checking};
     ghost use Rattle.rare_check.specs.inner.Kept.{checking_of, IsKept};
     ghost use Rattle.rare_sort.specs.contracts.tree.Tree as e;
+    ghost use Rattle.rare_sort.specs.contracts.declarations.Declarations as d;
     ghost use Rattle.std.specs.Coded.{codes};
 
     ghost Value = { Checking };
 
-    ghost coded = { Prim.hlevel (codes, e.the_row.coded) };
+    ghost coded = { Prim.hlevel (codes, e.the_row.coded, d.the_row.coded) };
 
-    ghost view = { λ c. checking_of (T.state c.terms).trees c.problem c.judged c.reader c.stopped };
+    ghost view = { λ c. checking_of (T.state c.terms) c.known c.problem c.judged c.reader c.stopped };
 
-    ghost invariant = { λ c. IsKept (T.state c.terms).trees (T.state c.terms).declared c.problem c.judged c.reader };
+    ghost invariant = { λ c. IsKept (T.state c.terms) c.known c.problem c.judged c.reader };
 }
 
 impl<T: Terms + Drop> Checker<T> {
@@ -51,14 +54,17 @@ impl<T: Terms + Drop> Checker<T> {
     /// With the bytes of a whole proof it answers what the proof comes to.
     pub fn new(alloc: Global, terms: T, problem: Problem) -> Checker<T>
         requires ids { HaveIds (length (T.state terms).trees) problem.rewrites }
-        requires symbols { (T.state terms).declared ≡ declared_by problem.scope }
-        ensures held { result ≡ start (stated (T.state terms).trees problem) }
-        ensures whole { (proof : List ℕ) → answer result proof ≡ checked (stated (T.state terms).trees problem) proof }
+        requires names { AreMeant (T.state terms) problem.scope }
+        ensures held { result ≡ start (stated_problem (T.state terms) problem) }
+        ensures whole { (proof : List ℕ) → answer result proof
+            ≡ checked (stated_problem (T.state terms) problem) proof }
     {
+        let known = problem.scope.len();
         Checker {
             alloc,
             terms,
             problem,
+            known,
             judged: Judged::new(alloc),
             reader: Reader::new(alloc),
             stopped: None,
@@ -71,11 +77,13 @@ impl<T: Terms + Drop> Checker<T> {
     /// memory every later call gives the same.
     pub fn feed(&mut self, bytes: &[u8]) -> Result<(), Fault>
         requires { self.old.left.fed + length bytes.now ≤ 2 ^ 32 - 2 }
-        ensures ok { OnOk result ((rest : List ℕ) → answer self.new rest ≡ answer self.old (bytes.now ++ rest)) }
+        ensures ok { OnOk result ((rest : List ℕ) → answer self.new rest
+            ≡ answer self.old (bytes.now ++ rest)) }
         ensures fed { OnOk result (self.new.left.fed ≡ self.old.left.fed + length bytes.now) }
         ensures at_most { self.new.left.fed ≤ self.old.left.fed + length bytes.now }
         ensures going { OnOk result (self.new.stopped ≡ None) }
-        ensures refused { IfErr result (λ fault. (rest : List ℕ) → Refuses fault (answer self.old (bytes.now ++ rest))) }
+        ensures refused { IfErr result (λ fault. (rest : List ℕ)
+            → Refuses fault (answer self.old (bytes.now ++ rest))) }
         ensures stands { IfErr result (λ fault. self.new.stopped ≡ Some fault) }
         ensures again { IfSome self.old.stopped (λ fault. result ≡ Err fault) }
         ensures problem { self.new.problem ≡ self.old.problem }
@@ -96,10 +104,12 @@ impl<T: Terms + Drop> Checker<T> {
     fn take(&mut self, bytes: &[u8]) -> Result<(), Fault>
         requires short { self.old.left.fed + length bytes.now ≤ 2 ^ 32 - 2 }
         requires going { self.old.stopped ≡ None }
-        ensures ok { OnOk result ((rest : List ℕ) → answer self.new rest ≡ answer self.old (bytes.now ++ rest)) }
+        ensures ok { OnOk result ((rest : List ℕ) → answer self.new rest
+            ≡ answer self.old (bytes.now ++ rest)) }
         ensures fed { OnOk result (self.new.left.fed ≡ self.old.left.fed + length bytes.now) }
         ensures at_most { self.new.left.fed ≤ self.old.left.fed + length bytes.now }
-        ensures refused { IfErr result (λ fault. (rest : List ℕ) → Refuses fault (answer self.old (bytes.now ++ rest))) }
+        ensures refused { IfErr result (λ fault. (rest : List ℕ)
+            → Refuses fault (answer self.old (bytes.now ++ rest))) }
         ensures going { self.new.stopped ≡ None }
         ensures problem { self.new.problem ≡ self.old.problem }
     {
@@ -109,7 +119,8 @@ impl<T: Terms + Drop> Checker<T> {
         take_commands(
             self.alloc,
             &mut self.terms,
-            &self.problem,
+            self.problem.rewrites.items(),
+            &mut self.problem.scope,
             &mut self.judged,
             &mut self.reader,
         )
@@ -131,13 +142,27 @@ impl<T: Terms + Drop> Checker<T> {
             alloc,
             mut terms,
             problem,
+            known: _,
             mut judged,
             mut reader,
             stopped: _,
         } = self;
+        let Problem {
+            rewrites,
+            mut scope,
+            samples: _,
+        } = problem;
         reader.end();
-        take_commands(alloc, &mut terms, &problem, &mut judged, &mut reader)?;
-        match report_of(alloc, &problem, judged) {
+        let rewrites = rewrites.items();
+        take_commands(
+            alloc,
+            &mut terms,
+            rewrites,
+            &mut scope,
+            &mut judged,
+            &mut reader,
+        )?;
+        match report_of(alloc, rewrites, judged) {
             Ok(report) => Ok(report),
             Err(_) => Err(Fault::Memory),
         }

@@ -1,48 +1,97 @@
 //! Reading and judging the commands of a proof, one by one.
-ghost use Rattle.std.specs.Prelude.{◌≡◌, List, ℕ, [], true, OnOk, IfErr};
+ghost use Rattle.std.specs.Prelude.{◌≡◌, List, ℕ, [], true, length, Ok, OnOk, IfErr};
+ghost use Rattle.rare_proof_text.specs.Commands.{CommandHasIds, DefinesNew, command_at};
+ghost use Rattle.rare_proof_text.specs.ProofText.{proof_command};
+ghost use Rattle.rare_proof_text.specs.ProofCommands.{names_behind};
+ghost use Rattle.rare_scope.specs.Names.{names_of, AreMeant};
 ghost use Rattle.rare_sexpr.specs.Commands.{Commands, put_first, no_commands};
 ghost use Rattle.rare_sexpr.specs.Streams.{commands_left};
-ghost use Rattle.rare_check.specs.Checking.{answer_from, Refuses};
-ghost use Rattle.rare_check.specs.inner.Kept.{IsHeld};
-ghost use Rattle.rare_check.specs.inner.Progress.{progress_of};
-ghost use Rattle.rare_check.specs.Stated.{stated};
+ghost use Rattle.rare_sexpr.specs.declared.tree.Sexpr.{Sexpr};
+ghost use Rattle.rare_text.specs.declared.problem.Rewrite.{Rewrite};
+ghost use Rattle.rare_check.specs.Checking.{Refuses};
+ghost use Rattle.rare_check.specs.inner.Kept.{IsHeld, Keeps, answer_with};
 
-use crate::commands::read_command;
 use crate::judged::Judged;
 use crate::judging::judge;
-use crate::problem::Problem;
-use crate::stop::Stop;
-use rare_base::{Fault, Reason};
+use rare_base::Fault;
+use rare_proof_text::{ReadCommand, read_command};
+use rare_scope::Scope;
 use rare_sexpr::{Expr, Next, Reader};
 use rare_term::Terms;
-use std::alloc::Global;
+use rare_text::Rewrite;
+use std::alloc::{AllocError, Global};
+
+// The names behind a command. Where memory is wanting, they stay.
+fn define<E: Expr, T: Terms>(
+    terms: &T,
+    scope: &mut Scope,
+    command: &ReadCommand<'_, E>,
+) -> Result<(), AllocError>
+    requires meant { AreMeant (T.state terms.now) scope.old }
+    requires ids { CommandHasIds (length (T.state terms.now).trees) command.now }
+    requires new { DefinesNew scope.old command.now }
+    ensures names { OnOk result (names_of (T.state terms.now).trees scope.new
+        ≡ names_behind (names_of (T.state terms.now).trees scope.old)
+        (command_at E.tree (T.state terms.now).trees command.now)) }
+    ensures meant { AreMeant (T.state terms.now) scope.new }
+    ensures keeps { (rewrites : List Rewrite)
+        → Keeps (T.state terms.now) scope.old (T.state terms.now) scope.new rewrites }
+{
+    match command {
+        ReadCommand::Define { name, term } => scope.define(name, *term),
+        _ => Ok(()),
+    }
+}
+
+// Judges a command that was read, and keeps the name that it defines.
+fn follow<E: Expr, T: Terms>(
+    alloc: Global,
+    terms: &T,
+    rewrites: &[Rewrite],
+    scope: &mut Scope,
+    judged: &mut Judged,
+    command: &ReadCommand<'_, E>,
+) -> Result<(), AllocError>
+    requires held { IsHeld (T.state terms.now) rewrites.now scope.old judged.old }
+    requires ids { CommandHasIds (length (T.state terms.now).trees) command.now }
+    requires new { DefinesNew scope.old command.now }
+    ensures ok { OnOk result ((e : Sexpr) (rest : Commands) →
+        proof_command (T.state terms.now).declared (names_of (T.state terms.now).trees scope.old) e
+        ≡ Ok (command_at E.tree (T.state terms.now).trees command.now) →
+        answer_with (T.state terms.now) rewrites.now scope.old judged.old (put_first e rest)
+        ≡ answer_with (T.state terms.now) rewrites.now scope.new judged.new rest) }
+    ensures held { IsHeld (T.state terms.now) rewrites.now scope.new judged.new }
+    ensures keeps { Keeps (T.state terms.now) scope.old (T.state terms.now) scope.new rewrites.now }
+{
+    define(terms, scope, command)?;
+    judge(alloc, terms, rewrites, judged, command)
+}
 
 // Reads and judges one command.
 fn take_command<E: Expr, T: Terms>(
     alloc: Global,
     e: &E,
     terms: &mut T,
-    problem: &Problem,
+    rewrites: &[Rewrite],
+    scope: &mut Scope,
     judged: &mut Judged,
 ) -> Result<(), Fault>
-    requires { IsHeld (T.state terms.old).trees (T.state terms.old).declared problem.now judged.old }
-    ensures ok { OnOk result ((rest : Commands) → answer_from (stated (T.state terms.old).trees problem.now) (progress_of (T.state terms.old).trees judged.old) (put_first (E.tree e.now) rest)
-        ≡ answer_from (stated (T.state terms.new).trees problem.now) (progress_of (T.state terms.new).trees judged.new) rest) }
-    ensures refused { IfErr result (λ fault. (rest : Commands) → Refuses fault (answer_from (stated (T.state terms.old).trees problem.now) (progress_of (T.state terms.old).trees judged.old) (put_first (E.tree e.now) rest))) }
-    ensures held { IsHeld (T.state terms.new).trees (T.state terms.new).declared problem.now judged.new }
-    ensures problem { stated (T.state terms.new).trees problem.now ≡ stated (T.state terms.old).trees problem.now }
+    requires { IsHeld (T.state terms.old) rewrites.now scope.old judged.old }
+    ensures ok { OnOk result ((rest : Commands)
+        → answer_with (T.state terms.old) rewrites.now scope.old judged.old
+        (put_first (E.tree e.now) rest)
+        ≡ answer_with (T.state terms.new) rewrites.now scope.new judged.new rest) }
+    ensures refused { IfErr result (λ fault. (rest : Commands) →
+        Refuses fault (answer_with (T.state terms.old) rewrites.now scope.old judged.old
+        (put_first (E.tree e.now) rest))) }
+    ensures held { IsHeld (T.state terms.new) rewrites.now scope.new judged.new }
+    ensures keeps { Keeps (T.state terms.old) scope.old (T.state terms.new) scope.new rewrites.now }
 {
-    let command = match read_command(alloc, e, &problem.scope, terms) {
+    let command = match read_command(alloc, e, scope, terms) {
         Ok(command) => command,
-        Err(Stop::Memory) => return Err(Fault::Memory),
-        Err(Stop::Unread) => {
-            return Err(Fault::Refused {
-                place: e.place(),
-                reason: Reason::Unread,
-            });
-        }
+        Err(fault) => return Err(fault),
     };
-    match judge(alloc, terms, problem, judged, &command) {
+    match follow(alloc, terms, rewrites, scope, judged, &command) {
         Ok(()) => Ok(()),
         Err(_) => Err(Fault::Memory),
     }
@@ -53,25 +102,31 @@ fn take_command<E: Expr, T: Terms>(
 pub fn take_commands<T: Terms>(
     alloc: Global,
     terms: &mut T,
-    problem: &Problem,
+    rewrites: &[Rewrite],
+    scope: &mut Scope,
     judged: &mut Judged,
     reader: &mut Reader,
 ) -> Result<(), Fault>
-    requires { IsHeld (T.state terms.old).trees (T.state terms.old).declared problem.now judged.old }
+    requires { IsHeld (T.state terms.old) rewrites.now scope.old judged.old }
     ensures ok { OnOk result ((more : List ℕ) → (reader.old.ended ≡ true → more ≡ []) →
-        answer_from (stated (T.state terms.old).trees problem.now) (progress_of (T.state terms.old).trees judged.old) (commands_left reader.old more)
-        ≡ answer_from (stated (T.state terms.new).trees problem.now) (progress_of (T.state terms.new).trees judged.new) (commands_left reader.new more)) }
-    ensures finished { OnOk result (reader.old.ended ≡ true → commands_left reader.new [] ≡ no_commands) }
-    ensures refused { IfErr result (λ fault. (more : List ℕ) → (reader.old.ended ≡ true → more ≡ []) →
-        Refuses fault (answer_from (stated (T.state terms.old).trees problem.now) (progress_of (T.state terms.old).trees judged.old) (commands_left reader.old more))) }
-    ensures held { IsHeld (T.state terms.new).trees (T.state terms.new).declared problem.now judged.new }
-    ensures problem { stated (T.state terms.new).trees problem.now ≡ stated (T.state terms.old).trees problem.now }
+        answer_with (T.state terms.old) rewrites.now scope.old judged.old
+        (commands_left reader.old more)
+        ≡ answer_with (T.state terms.new) rewrites.now scope.new judged.new
+        (commands_left reader.new more)) }
+    ensures finished { OnOk result (reader.old.ended ≡ true → commands_left reader.new []
+        ≡ no_commands) }
+    ensures refused { IfErr result (λ fault. (more : List ℕ)
+        → (reader.old.ended ≡ true → more ≡ []) →
+        Refuses fault (answer_with (T.state terms.old) rewrites.now scope.old judged.old
+        (commands_left reader.old more))) }
+    ensures held { IsHeld (T.state terms.new) rewrites.now scope.new judged.new }
+    ensures keeps { Keeps (T.state terms.old) scope.old (T.state terms.new) scope.new rewrites.now }
     ensures fed { reader.new.fed ≡ reader.old.fed }
     ensures ended { reader.new.ended ≡ reader.old.ended }
 {
     loop {
         match reader.next_command() {
-            Ok(Next::Command(e)) => take_command(alloc, &e, terms, problem, judged)?,
+            Ok(Next::Command(e)) => take_command(alloc, &e, terms, rewrites, scope, judged)?,
             Ok(Next::NeedMore) | Ok(Next::Finished) => return Ok(()),
             Err(fault) => return Err(fault),
         }

@@ -1,7 +1,7 @@
 //! The report on a proof.
-use crate::steps::StepFault;
 use rare_base::{Numbers, Text};
 use rare_list::Sequence;
+use rare_proof::StepFault;
 
 /// What a proof says of a rewrite.
 #[derive(Clone, Copy, Debug, PartialEq, Eq)]

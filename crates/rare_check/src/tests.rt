@@ -1,13 +1,26 @@
-//! Problems and proofs with what is answered to them, and the limits.
-ghost use Rattle.std.specs.Prelude.{◌≡◌, ◌+◌, ◌≤◌, length};
-ghost use Rattle.rare_check.specs.TermText.{declared_by};
-ghost use Rattle.rare_check.specs.Stated.{HaveIds};
+//! Proofs of one problem, in pieces: what they come to by named rows.
+ghost use Rattle.std.specs.Prelude.{◌+◌, ◌≤◌, length};
+ghost use Rattle.rare_scope.specs.Names.{AreMeant};
+ghost use Rattle.rare_text.specs.Stated.{HaveIds};
 
-use crate::{Checker, Problem, Report, Scope, Verdict, read_problem};
+use crate::{Checker, Report, Verdict};
 use rare_base::{Fault, Text};
 use rare_term::{Plain, Terms};
+use rare_text::{Problem, read_problem};
 use std::alloc::{AllocError, Global};
 use std::test::Fail;
+
+// What a row says, a proof, and what is answered to it.
+#[derive(Clone, Copy)]
+struct Row {
+    name: &'static str,
+    proof: &'static str,
+    want: &'static str,
+}
+
+// The problem of the proofs.
+const PROBLEM: &str =
+    "(declare-const p Bool)(declare-const q Bool)(rewrite r1 p p)(rewrite r2 (and p q) (and p q))";
 
 // Writes the place of a refusal behind the name of its text.
 fn show_fault(alloc: Global, text: &str, fault: Fault) -> Result<Text, AllocError> {
@@ -51,7 +64,7 @@ fn check_pieces<T: Terms + Drop>(
     back: &[u8],
 ) -> Result<Report, Fault>
     requires ids { HaveIds (length (T.state terms).trees) problem.rewrites }
-    requires symbols { (T.state terms).declared ≡ declared_by problem.scope }
+    requires names { AreMeant (T.state terms) problem.scope }
     requires short { length front.now + length back.now ≤ 100000 }
 {
     let mut checker = Checker::new(alloc, terms, problem);
@@ -60,13 +73,12 @@ fn check_pieces<T: Terms + Drop>(
     checker.finish()
 }
 
-// What is answered to a problem and to a proof that is fed in two pieces.
-fn show_answer(alloc: Global, problem: &[u8], front: &[u8], back: &[u8]) -> Result<Text, AllocError>
-    requires problem { length problem.now ≤ 100000 }
-    requires proof { length front.now + length back.now ≤ 100000 }
+// What is answered to a proof that is fed in two pieces.
+fn show_answer(alloc: Global, front: &[u8], back: &[u8]) -> Result<Text, AllocError>
+    requires { length front.now + length back.now ≤ 100000 }
 {
     let mut terms = Plain::new(alloc);
-    match read_problem(alloc, problem, &mut terms) {
+    match read_problem(alloc, PROBLEM.as_bytes(), &mut terms) {
         Ok(problem) => match check_pieces(alloc, terms, problem, front, back) {
             Ok(report) => show_report(alloc, &report),
             Err(fault) => show_fault(alloc, "proof", fault),
@@ -75,309 +87,135 @@ fn show_answer(alloc: Global, problem: &[u8], front: &[u8], back: &[u8]) -> Resu
     }
 }
 
-// Problems, and what is answered to them where the proof is empty.
-const PROBLEMS: [(&[u8], &[u8]); 37] = [
-    (b"", b""),
-    (b"; nothing\n", b""),
-    (b"(rewrite r1 true false)", b"M"),
-    (b"(declare-const p Bool) ; p\n(rewrite r1 p (not p))", b"M"),
-    (
-        b"(declare-const p Bool)(rewrite r1 (= p p p) (or p p))",
-        b"M",
-    ),
-    (
-        b"(declare-const p Bool)(rewrite p p p)(rewrite and p p)",
-        b"MM",
-    ),
-    (b"(rewrite _ true true)(rewrite @ true true)", b"MM"),
-    (b"(declare-const extract Bool)(declare-const Bo Bool)", b""),
-    (b"(declare-const p Bool)(assert p)", b"problem 1:23 Unread"),
-    (
-        b"(declare-const p Bool)\n (declare-const p Bool)",
-        b"problem 2:2 Unread",
-    ),
-    (b"(declare-const ite Bool)", b"problem 1:1 Unread"),
-    (b"(declare-const bv Bool)", b"problem 1:1 Unread"),
-    (b"(declare-const Bool Bool)", b"problem 1:1 Unread"),
-    (b"(declare-const @x Bool)", b"problem 1:1 Unread"),
-    (b"(declare-const .x Bool)", b"problem 1:1 Unread"),
-    (b"(declare-const par Bool)", b"problem 1:1 Unread"),
-    (b"(declare-const p Int)", b"problem 1:1 Unread"),
-    (b"(declare-const p)", b"problem 1:1 Unread"),
-    (b"(declare-const :p Bool)", b"problem 1:1 Unread"),
-    (b"(declare-const \"p\" Bool)", b"problem 1:1 Unread"),
-    (b"(declare-const |p| Bool)(|rewrite| |r1| p |p|)", b"M"),
-    (b"(rewrite 1 true true)", b"problem 1:1 Unread"),
-    (b"(rewrite r1 |a\\b true)", b"problem 1:15 BadCharacter"),
-    (b" (rewrite r1 p p)", b"problem 1:2 Unread"),
-    (b"(rewrite r1 true)", b"problem 1:1 Unread"),
-    (b"(rewrite r1 true true true)", b"problem 1:1 Unread"),
-    (
-        b"(rewrite r1 true true)(rewrite r1 true true)",
-        b"problem 1:23 Unread",
-    ),
-    (b"(rewrite (r1) true true)", b"problem 1:1 Unread"),
-    (b"(rewrite r1 (true) true)", b"problem 1:1 Unread"),
-    (
-        b"(declare-const p Bool)(rewrite r1 (p) p)",
-        b"problem 1:23 Unread",
-    ),
-    (
-        b"(declare-const p Bool)(rewrite r1 (and p) p)",
-        b"problem 1:23 Unread",
-    ),
-    (b"(rewrite r1 (not true true) true)", b"problem 1:1 Unread"),
-    (b"(rewrite r1 true (=> true true))", b"problem 1:1 Unread"),
-    (b"(rewrite r1 () true)", b"problem 1:1 Unread"),
-    (b"()", b"problem 1:1 Unread"),
-    (b"(rewrite r1 true true) true", b"problem 1:24 Unread"),
-    (b"(rewrite r1 true true)\n\n;\n(", b"problem 4:1 Unbalanced"),
-];
-
-// The problem of the proofs.
-const PROBLEM: &[u8] =
-    b"(declare-const p Bool)(declare-const q Bool)(rewrite r1 p p)(rewrite r2 (and p q) (and p q))";
-
-// Proofs, and what is answered to them.
-const PROOFS: [(&[u8], &[u8]); 47] = [
-    (b"", b"MM"),
-    (b"(step t1 (cl (= p p)) :rule refl)", b"MM"),
-    (b"(step t1 (cl (= p p)) :rule refl)(conclude r1 t1)", b"VM"),
-    (
-        b"(step t1 (cl (= p p)) :rule refl)(conclude r1 t1)(conclude r1 t1)",
-        b"VM",
-    ),
-    (
-        b"(step and (cl (= p p)) :rule refl)(conclude r1 and)",
-        b"VM",
-    ),
-    (
-        b"(step t1 (cl (= p p)) :rule refl :premises ())(conclude r1 t1)",
-        b"VM",
-    ),
-    (
-        b"; c\n(step t1 (cl (= p p)) ; )\r:rule refl)(conclude r1 t1)",
-        b"VM",
-    ),
-    (b"(step t1 (cl (= p q)) :rule refl)", b"t1 NotEqual"),
-    (
-        b"(step t1 (cl (= (and p q) (and q p))) :rule refl)",
-        b"t1 NotEqual",
-    ),
-    (
-        b"(step a (cl (= p p)) :rule refl)(step b (cl (= p q)) :rule refl :premises (a))",
-        b"b PremiseCount",
-    ),
-    (
-        b"(step a (cl (= p p)) :rule refl)(step b (cl (= p p)) :rule trans :premises (a a))(conclude r1 b)",
-        b"VM",
-    ),
-    (
-        b"(step a (cl (= p p)) :rule refl)(step b (cl (= q q)) :rule refl)(step c (cl (= p q)) :rule trans :premises (a b))",
-        b"c OtherPremise",
-    ),
-    (
-        b"(step a (cl (= p p)) :rule refl)(step b (cl (= p q)) :rule trans :premises (a a))",
-        b"b OtherPremise",
-    ),
-    (
-        b"(step a (cl (= p p)) :rule refl)(step b (cl (= q p)) :rule trans :premises (a a))",
-        b"b OtherPremise",
-    ),
-    (
-        b"(step a (cl (= p p)) :rule refl)(step b (cl (= p q)) :rule trans :premises (a))",
-        b"b PremiseCount",
-    ),
-    (
-        b"(step a (cl (= p p)) :rule refl)(step b (cl (= p p)) :rule trans :premises (a a a))",
-        b"b PremiseCount",
-    ),
-    (b"(step a (cl (= p p)) :rule cong)(conclude r1 a)", b"VM"),
-    (
-        b"(step a (cl (= (and p q) (and p q))) :rule cong)(conclude r2 a)",
-        b"MV",
-    ),
-    (
-        b"(step a (cl (= p p)) :rule refl)(step b (cl (= p p)) :rule cong :premises (a))",
-        b"b PremiseCount",
-    ),
-    (
-        b"(step a (cl (= (not p) (not q))) :rule cong)",
-        b"a PremiseCount",
-    ),
-    (
-        b"(step a (cl (= p p)) :rule refl)(step b (cl (= (not p) (not q))) :rule cong :premises (a))",
-        b"b OtherPremise",
-    ),
-    (
-        b"(step a (cl (= p p)) :rule refl)(step b (cl (= (and p q) (and q q))) :rule cong :premises (a))",
-        b"b OtherPremise",
-    ),
-    (
-        b"(step a (cl (= p p)) :rule refl)(step b (cl (= (and p q) (and q p))) :rule cong :premises (a))",
-        b"b PremiseCount",
-    ),
-    (
-        b"(step a (cl (= p p)) :rule refl)(step b (cl (= (and p q) (and q p))) :rule cong :premises (a a))",
-        b"b OtherPremise",
-    ),
-    (
-        b"(step a (cl (= (and p q) (or p q))) :rule cong)",
-        b"a OtherHead",
-    ),
-    (
-        b"(step a (cl (= (and p q) (and p q q))) :rule cong)",
-        b"a OtherHead",
-    ),
-    (b"(step a (cl (= p q)) :rule cong)", b"a OtherHead"),
-    (
-        b"(step a (cl (= p p)) :rule refl)(step a (cl (= p p)) :rule refl :premises (b))",
-        b"a IdUsed",
-    ),
-    (
-        b"(step a (cl (= p q)) :rule refl :premises (a))",
-        b"a NoSuchStep",
-    ),
-    (b"(conclude r1 a)", b"r1 NoSuchStep"),
-    (b"(conclude r3 a)", b"r3 NoSuchRewrite"),
-    (
-        b"(step a (cl (= p p)) :rule refl)(conclude r2 a)",
-        b"r2 OtherEquation",
-    ),
-    (
-        b"(step a (cl (= p q)) :rule refl)(conclude r3 a)(step a (cl (= p p)) :rule refl)",
-        b"a NotEqual",
-    ),
-    (
-        b"(step a (cl (= p q)) :rule refl)\n (exit)",
-        b"proof 2:2 Unread",
-    ),
-    (
-        b"(step t1 (cl (= p p)) :rule refl extra)",
-        b"proof 1:1 Unread",
-    ),
-    (
-        b"(step t1 (cl (= p p)) :rule resolution)",
-        b"proof 1:1 Unread",
-    ),
-    (
-        b"(step t1 (cl (= p p)) :rule refl :premises t1)",
-        b"proof 1:1 Unread",
-    ),
-    (
-        b"(step t1 (cl (= p p)) :rule refl :premises (:t1))",
-        b"proof 1:1 Unread",
-    ),
-    (b"(step t1 (cl (= p p p)) :rule refl)", b"proof 1:1 Unread"),
-    (
-        b"(step t1 (cl (= p p) (= p p)) :rule refl)",
-        b"proof 1:1 Unread",
-    ),
-    (b"(step t1 (= p p) :rule refl)", b"proof 1:1 Unread"),
-    (
-        b"(step \"t1\" (cl (= p p)) :rule refl)",
-        b"proof 1:1 Unread",
-    ),
-    (b"(step t1 (cl (= p |p", b"proof 1:19 OpenSymbol"),
-    (b"(step t1 (cl (= s s)) :rule refl)", b"proof 1:1 Unread"),
-    (b"(declare-const s Bool)", b"proof 1:1 Unread"),
-    (
-        b"(step t1 (cl (= p p)) :rule refl) t1",
-        b"proof 1:35 Unread",
-    ),
-    (
-        b"(step t1 (cl (= p p)) :rule refl)\n(conclude r1 t1",
-        b"proof 2:1 Unbalanced",
-    ),
-];
-
-#[test]
-fn answers_problems_and_proofs(rt: HostRuntime) -> Result<(), Fail> {
-    for (row, (problem, want)) in PROBLEMS.into_iter().enumerate() {
-        assert!(rt; problem.len() <= 100000);
-        let answer = show_answer(rt.alloc(), problem, b"", b"")?;
-        assert_eq!(rt; answer.bytes(), want, "problem {row}");
-    }
-    for (row, (proof, want)) in PROOFS.into_iter().enumerate() {
-        assert!(rt; proof.len() <= 100000);
+// The first row that is answered otherwise, in some two pieces.
+fn first_wrong(alloc: Global, rows: &[Row]) -> Result<&'static str, AllocError> {
+    for row in rows {
+        let proof = row.proof.as_bytes();
+        if proof.len() > 100_000 {
+            return Ok(row.name);
+        }
         for cut in 0..proof.len() + 1 {
             let (front, back) = proof.split_at(cut);
-            let answer = show_answer(rt.alloc(), PROBLEM, front, back)?;
-            assert_eq!(rt; answer.bytes(), want, "proof {row}, cut at {cut}");
+            let shown = show_answer(alloc, front, back)?;
+            if shown.bytes() != row.want.as_bytes() {
+                return Ok(row.name);
+            }
         }
     }
+    Ok("none")
+}
+
+// Proofs, by the rewrites that they conclude.
+const VERDICTS: [Row; 9] = [
+    Row {
+        name: "no command",
+        proof: "",
+        want: "MM",
+    },
+    Row {
+        name: "a conclusion",
+        proof: "(step a (cl (= p p)) :rule refl)(conclude r1 a)",
+        want: "VM",
+    },
+    Row {
+        name: "two conclusions of one rewrite",
+        proof: "(step a (cl (= p p)) :rule refl)(conclude r1 a)(conclude r1 a)",
+        want: "VM",
+    },
+    Row {
+        name: "one equation under two ids",
+        proof: "(step a (cl (= p p)) :rule refl)(step b (cl (= p p)) :rule cong)(conclude r1 b)",
+        want: "VM",
+    },
+    Row {
+        name: "premises by their ids",
+        proof: "(step a (cl (= p p)) :rule refl)(step b (cl (= p p)) :rule cong)(step c (cl (= p p)) :rule trans :premises (a b))(conclude r1 c)",
+        want: "VM",
+    },
+    Row {
+        name: "a defined name",
+        proof: "(define-fun @1 () Bool (and p q))(step a (cl (= @1 (and p q))) :rule refl)(conclude r2 a)",
+        want: "MV",
+    },
+    Row {
+        name: "values",
+        proof: "(step a (cl (= (and true false) false)) :rule evaluate)",
+        want: "MM",
+    },
+    Row {
+        name: "no terms by refl",
+        proof: "(step a (cl (= p q)) :rule refl)",
+        want: "a NotEqual",
+    },
+    Row {
+        name: "premises that do not join",
+        proof: "(step a (cl (= p p)) :rule refl)(step b (cl (= q q)) :rule refl)(step c (cl (= p q)) :rule trans :premises (a b))",
+        want: "c OtherPremise",
+    },
+];
+
+// Proofs that are not valid, or refused.
+const FAULTS: [Row; 10] = [
+    Row {
+        name: "an id that is used",
+        proof: "(step a (cl (= p p)) :rule refl)(step a (cl (= p p)) :rule refl :premises (b))",
+        want: "a IdUsed",
+    },
+    Row {
+        name: "a premise that is no step",
+        proof: "(step a (cl (= p q)) :rule refl :premises (a))",
+        want: "a NoSuchStep",
+    },
+    Row {
+        name: "a conclusion of no step",
+        proof: "(conclude r1 a)",
+        want: "r1 NoSuchStep",
+    },
+    Row {
+        name: "a conclusion of no rewrite",
+        proof: "(conclude r3 a)",
+        want: "r3 NoSuchRewrite",
+    },
+    Row {
+        name: "a conclusion of another equation",
+        proof: "(step a (cl (= p p)) :rule refl)(conclude r2 a)",
+        want: "r2 OtherEquation",
+    },
+    Row {
+        name: "the first of two that are not valid",
+        proof: "(step a (cl (= p q)) :rule refl)(conclude r3 a)(step a (cl (= p p)) :rule refl)",
+        want: "a NotEqual",
+    },
+    Row {
+        name: "a name behind a step that is not valid",
+        proof: "(step a (cl (= p q)) :rule refl)(define-fun @1 () Bool p)(step b (cl (= @1 @1)) :rule refl)",
+        want: "a NotEqual",
+    },
+    Row {
+        name: "a refusal behind a step that is not valid",
+        proof: "(step a (cl (= p q)) :rule refl)\n (exit)",
+        want: "proof 2:2 UnknownCommand",
+    },
+    Row {
+        name: "a name that is defined twice",
+        proof: "(define-fun @1 () Bool p)(define-fun @1 () Bool p)",
+        want: "proof 1:38 DeclaredTwice",
+    },
+    Row {
+        name: "a list that stays open",
+        proof: "(step a (cl (= p p)) :rule refl)\n(conclude r1 a",
+        want: "proof 2:1 Unbalanced",
+    },
+];
+
+#[test]
+fn proofs_come_to_verdicts(rt: HostRuntime) -> Result<(), Fail> {
+    assert_eq!(rt; first_wrong(rt.alloc(), &VERDICTS)?, "none");
     Ok(())
-}
-
-// Appends a piece so many times.
-fn append_times(out: &mut Text, piece: &[u8], times: usize) -> Result<(), AllocError> {
-    for _ in 0..times {
-        out.append(piece)?;
-    }
-    Ok(())
-}
-
-// A term that is nested so many levels below its root.
-fn append_nested(out: &mut Text, levels: usize) -> Result<(), AllocError> {
-    append_times(out, b"(not ", levels)?;
-    out.append(b"true")?;
-    append_times(out, b")", levels)
-}
-
-// A rewrite of a term that is nested so many levels below its root, and its proof.
-fn nested_texts(alloc: Global, levels: usize) -> Result<(Text, Text), AllocError> {
-    let mut problem = Text::of(alloc, b"(rewrite r1 ")?;
-    append_nested(&mut problem, levels)?;
-    problem.append(b" true)")?;
-    let mut proof = Text::of(alloc, b"(step t1 (cl (= ")?;
-    append_nested(&mut proof, levels)?;
-    proof.push(b' ')?;
-    append_nested(&mut proof, levels)?;
-    proof.append(b")) :rule refl)")?;
-    Ok((problem, proof))
-}
-
-// A rewrite of an application with so many arguments.
-fn wide_text(alloc: Global, args: usize) -> Result<Text, AllocError> {
-    let mut problem = Text::of(alloc, b"(rewrite r1 (or")?;
-    append_times(&mut problem, b" true", args)?;
-    problem.append(b") true)")?;
-    Ok(problem)
 }
 
 #[test]
-fn reads_terms_up_to_the_limits(rt: HostRuntime) -> Result<(), Fail> {
-    for (levels, want) in [
-        (1999, &b"M"[..]),
-        (2000, b"problem 1:1 Unread"),
-        (4999, b"problem 1:1 Unread"),
-    ] {
-        let (problem, proof) = nested_texts(rt.alloc(), levels)?;
-        assert!(rt; problem.bytes().len() <= 100000 && proof.bytes().len() <= 100000);
-        let answer = show_answer(rt.alloc(), problem.bytes(), proof.bytes(), b"")?;
-        assert_eq!(rt; answer.bytes(), want);
-    }
-    let (_, proof) = nested_texts(rt.alloc(), 2000)?;
-    assert!(rt; proof.bytes().len() <= 100000);
-    let answer = show_answer(rt.alloc(), b"", b"", proof.bytes())?;
-    assert_eq!(rt; answer.bytes(), b"proof 1:1 Unread".as_slice());
-    for (args, want) in [(256, &b"M"[..]), (257, b"problem 1:1 Unread")] {
-        let problem = wide_text(rt.alloc(), args)?;
-        assert!(rt; problem.bytes().len() <= 100000);
-        let answer = show_answer(rt.alloc(), problem.bytes(), b"", b"")?;
-        assert_eq!(rt; answer.bytes(), want);
-    }
-    Ok(())
-}
-
-#[test]
-fn numbers_the_declared_names(rt: HostRuntime) -> Result<(), Fail> {
-    let mut scope = Scope::new(rt.alloc());
-    assert!(rt; scope.may_declare(b"p") && scope.len() == 0);
-    scope.declare(b"p")?;
-    assert_eq!(rt; scope.symbol(b"p"), Some(0));
-    assert_eq!(rt; scope.symbol_name(0), b"p".as_slice());
-    assert_eq!(rt; scope.symbol(b"q"), None);
-    assert_eq!(rt; scope.len(), 1);
+fn first_faults_are_told(rt: HostRuntime) -> Result<(), Fail> {
+    assert_eq!(rt; first_wrong(rt.alloc(), &FAULTS)?, "none");
     Ok(())
 }

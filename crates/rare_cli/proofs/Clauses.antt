@@ -8,7 +8,8 @@ use Rattle.rare_base.specs.Answers.{Refusal}
 use Rattle.rare_base.specs.Outside.{Rose, grown}
 use Rattle.rare_check.specs.declared.report.Report.{Report}
 use Rattle.rare_check.specs.declared.report.Report.TheVariants.{Checked, Invalid}
-use Rattle.rare_check.specs.ProblemText.{StatedProblem, problem_of}
+use Rattle.rare_text.specs.ProblemText.{problem_of}
+use Rattle.rare_text.specs.Problems.{StatedProblem}
 use Rattle.rare_check.specs.Verdicts.{checked}
 use Rattle.rare_cli.specs.declared.outcome.File.{File}
 use Rattle.rare_cli.specs.declared.outcome.File.TheVariants.{Problem, Proof}

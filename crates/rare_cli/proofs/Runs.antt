@@ -7,11 +7,12 @@ use Rattle.rare_base.specs.declared.outside.ReadError.{ReadError}
 use Rattle.rare_base.specs.declared.outside.ReadError.TheVariants as read
 use Rattle.rare_check.specs.Checking.{Checking, start, answer}
 use Rattle.rare_check.specs.Verdicts.{ValidAreTrue, checked}
-use Rattle.rare_check.specs.declared.problem.Rewrite.{Rewrite}
-use Rattle.rare_check.specs.declared.problem.Problem.{Problem}
-use Rattle.rare_check.specs.Stated.{stated, stated_rewrite}
+use Rattle.rare_term.specs.State.{State}
+use Rattle.rare_text.specs.declared.problem.Rewrite.{Rewrite}
+use Rattle.rare_text.specs.declared.problem.Problem.{Problem}
+use Rattle.rare_text.specs.Stated.{stated_problem, stated_rewrite}
 use Rattle.rare_check.specs.declared.report.Report.{Report}
-use Rattle.rare_check.specs.ProblemText.{StatedProblem}
+use Rattle.rare_text.specs.Problems.{StatedProblem}
 use Rattle.rare_sort.specs.declared.tree.Tree.{Tree}
 use Rattle.rare_cli.specs.declared.outcome.File.{File}
 use Rattle.rare_cli.specs.declared.outcome.Stop.{Stop}
@@ -57,10 +58,10 @@ names_stated : (ts : List Tree) (rewrites : List Rewrite) → map (λ r. r.name)
 names_stated ts [] = refl
 names_stated ts (r ∷ rs) = ap (λ names. r.name ∷ names) (names_stated ts rs)
 
-pub answer_of_report : (ts : List Tree) (p : Problem) (names : List (List ℕ)) (a : Answer) (report : Report) → names ≡ map (λ r. r.name) p.rewrites →
-    a.text ≡ report_lines names report → a.status ≡ report_status report → answer_outcome a ≡ report_outcome (stated ts p) report
-answer_of_report ts p names a report e text status =
-    let full : a.text ≡ report_text (stated ts p) report = text ∙ ap (λ names. report_lines names report) (e ∙ sym (names_stated ts p.rewrites)) in
+pub answer_of_report : (s : State) (p : Problem) (names : List (List ℕ)) (a : Answer) (report : Report) → names ≡ map (λ r. r.name) p.rewrites →
+    a.text ≡ report_lines names report → a.status ≡ report_status report → answer_outcome a ≡ report_outcome (stated_problem s p) report
+answer_of_report s p names a report e text status =
+    let full : a.text ≡ report_text (stated_problem s p) report = text ∙ ap (λ names. report_lines names report) (e ∙ sym (names_stated s.trees p.rewrites)) in
     λ i. record { text = full i; status = status i }
 
 -- what is checked is allowed

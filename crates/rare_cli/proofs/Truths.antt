@@ -6,8 +6,9 @@ use Rattle.rare_base.specs.Answers.{Refusal}
 use Rattle.rare_check.specs.declared.report.Report.TheVariants.{Checked}
 use Rattle.rare_check.specs.declared.report.Verdict.{Verdict}
 use Rattle.rare_check.specs.declared.report.Verdict.TheVariants.{Valid, Missing}
-use Rattle.rare_check.specs.ProblemText.{StatedProblem, StatedRewrite}
-use Rattle.rare_check.specs.ProofText.{ProofCommand, proof_of}
+use Rattle.rare_text.specs.Problems.{StatedProblem, StatedRewrite}
+use Rattle.rare_proof_text.specs.ProofText.{proof_of}
+use Rattle.rare_proof_text.specs.ProofCommands.{ProofCommand}
 use Rattle.rare_check.specs.Verdicts.{Bad, first_bad, concludes, verdict_by, verdicts_from, report_by, report_of, on_proof, checked, ValidAreTrue}
 use Rattle.rare_cli.specs.Outcomes.{is_valid}
 use Rattle.rare_cli.specs.Causes.{AllAreTrue}
@@ -40,11 +41,11 @@ pub all_true : (p : StatedProblem) (text : List ℕ) (verdicts : List Verdict) (
     list_all is_valid verdicts ≡ true → ValidAreTrue p (Checked verdicts trusted) → AllAreTrue p
 all_true p text verdicts trusted is valid true_where = by (proof_of p text) is
   where
-    by : (read : Result (List ProofCommand) Refusal) → on_proof (report_of p) read ≡ Ok (Checked verdicts trusted) → AllAreTrue p
+    by : (read : Result (List ProofCommand) Refusal) → on_proof (report_of p.rewrites) read ≡ Ok (Checked verdicts trusted) → AllAreTrue p
     by (Err fault) e = absurd cc
     by (Ok commands) e =
-        let report : report_of p commands ≡ Checked verdicts trusted = cc in
-        let same : verdicts_from p.rewrites commands 0 p.rewrites ≡ verdicts = verdicts_in (first_bad p [] commands) _ verdicts trusted report in
+        let report : report_of p.rewrites commands ≡ Checked verdicts trusted = cc in
+        let same : verdicts_from p.rewrites commands 0 p.rewrites ≡ verdicts = verdicts_in (first_bad p.rewrites [] commands) _ verdicts trusted report in
         λ k r at.
         let P : List Verdict → Type 0 = λ vs. list_all is_valid vs ≡ true in
         let Q : List Verdict → Type 0 = λ vs. slice_get vs k ≡ Some Valid in

@@ -10,8 +10,9 @@ use Rattle.rare_base.specs.Reads.{most_file_bytes}
 use Rattle.rare_meaning.specs.Interpretations.{AnyFunctions}
 use Rattle.rare_meaning.specs.TrueRewrite.{IsTrueRewrite}
 use Rattle.rare_check.specs.declared.report.Report.{Report}
-use Rattle.rare_check.specs.TermText.{declared_by}
-use Rattle.rare_check.specs.ProblemText.{StatedProblem, StatedRewrite, problem_of}
+use Rattle.rare_text.specs.ProblemText.{problem_of}
+use Rattle.rare_text.specs.Problems.{StatedProblem, StatedRewrite}
+use Rattle.rare_text.specs.Samples.{AreSamples}
 use Rattle.rare_check.specs.Verdicts.{checked, ValidAreTrue}
 use Rattle.rare_cli.specs.Calls.{Files, IsQuiet, Tells, Written, Takes, Cuts}
 use Rattle.rare_cli.specs.WordForms.{Names, name_of_file, form_of}
@@ -54,10 +55,12 @@ HasStopCause files names (TooLong file) = IsQuiet files × IsLong (files.told (n
 HasStopCause files names (Refused file place reason) = IsQuiet files × IsRefusedFile files names file (record { place = place; reason = reason })
 HasStopCause files names Memory = Unit {0}
 
--- the report on the proof that the files hold, and that each rewrite which it calls valid is true
+-- the report on the proof that the files hold; the samples of the problem are an allowed valuation, and each rewrite that the report
+-- calls valid is true
 pub record IsReport (files : Files) (names : Names) (p : StatedProblem) (report : Report) : Type 0 where
   pub quiet : IsQuiet files
   pub problem : IsProblem files names p
+  pub samples : AreSamples p.declared p.samples
   pub proof : ReadsAs (files.told names.proof) (checked p) (Ok report)
   pub valid : ValidAreTrue p report
 
@@ -88,7 +91,7 @@ pub record Reports (files : Files) (words : List (List ℕ)) (out : Written) (re
 
 -- The main statement of status 0: each rewrite that a problem states is true.
 abbrev pub AllAreTrue : StatedProblem → Type 0
-AllAreTrue p = (k : ℕ) (r : StatedRewrite) → slice_get p.rewrites k ≡ Some r → IsTrueRewrite AnyFunctions (declared_by p.names) r.left r.right
+AllAreTrue p = (k : ℕ) (r : StatedRewrite) → slice_get p.rewrites k ≡ Some r → IsTrueRewrite AnyFunctions p.declared r.left r.right
 
 -- a report was written that calls each rewrite valid, and each is true
 pub record Proves (files : Files) (words : List (List ℕ)) (out : Written) : Type 0 where

@@ -1,5 +1,5 @@
 -- What a run writes, and with which status.
-use Rattle.std.specs.Prelude.{ℕ, Bool, true, false, nat_lt, List, [], ◌∷◌, ◌++◌, length, codes, decimal, Result, Ok, Err, if◌then◌else◌}
+use Rattle.std.specs.Prelude.{ℕ, Bool, true, false, nat_lt, List, [], ◌∷◌, ◌++◌, length, map, codes, decimal, Result, Ok, Err, if◌then◌else◌}
 use Rattle.std.specs.List.{flat_map, list_all, zip}
 use Rattle.rare_base.specs.declared.answers.Status.{Status}
 use Rattle.rare_base.specs.declared.answers.Status.TheVariants as status
@@ -11,9 +11,10 @@ use Rattle.rare_check.specs.declared.report.Report.{Report}
 use Rattle.rare_check.specs.declared.report.Report.TheVariants.{Checked, Invalid}
 use Rattle.rare_check.specs.declared.report.Verdict.{Verdict}
 use Rattle.rare_check.specs.declared.report.Verdict.TheVariants.{Valid, Missing}
-use Rattle.rare_check.specs.declared.steps.StepFault.{StepFault}
-use Rattle.rare_check.specs.Words.{word_of}
-use Rattle.rare_check.specs.ProblemText.{StatedProblem, rewrite_names, problem_of}
+use Rattle.rare_proof.specs.declared.fault.StepFault.{StepFault}
+use Rattle.rare_proof.specs.Words.{word_of}
+use Rattle.rare_text.specs.ProblemText.{problem_of}
+use Rattle.rare_text.specs.Problems.{StatedProblem}
 use Rattle.rare_check.specs.Verdicts.{checked}
 use Rattle.rare_cli.specs.declared.outcome.File.{File}
 use Rattle.rare_cli.specs.declared.outcome.File.TheVariants.{Problem, Proof}
@@ -39,7 +40,7 @@ stop_text BadWords = codes "usage: rare check RULES PROBLEM PROOF | prove [--dep
 stop_text (ReadFault file) = codes "read fault " ++ file_word file
 stop_text (TooLong file) = codes "too long " ++ file_word file
 stop_text (Refused file place reason) =
-    codes "refused " ++ file_word file ++ codes " " ++ decimal place.line ++ codes ":" ++ decimal place.column ++ codes " " ++ base.word_of reason
+    codes "refused " ++ file_word file ++ codes " " ++ decimal place.line ++ codes ":" ++ decimal place.column ++ codes " " ++ base.reason_word reason
 stop_text Memory = codes "out of memory"
 
 abbrev pub stop_status : Stop → Status
@@ -77,6 +78,9 @@ invalid_line name fault = line (codes "invalid " ++ written_symbol name ++ codes
 abbrev pub report_lines : List (List ℕ) → Report → List ℕ
 report_lines names (Checked verdicts trusted) = flat_map rewrite_line (zip names verdicts)
 report_lines names (Invalid name fault) = invalid_line name fault
+
+abbrev pub rewrite_names : StatedProblem → List (List ℕ)
+rewrite_names p = map (λ r. r.name) p.rewrites
 
 abbrev pub report_text : StatedProblem → Report → List ℕ
 report_text p report = report_lines (rewrite_names p) report

@@ -7,8 +7,10 @@ ghost use Rattle.rare_cli.specs.Outcomes.{file_word, stop_line, verdict_text, is
 ghost use Rattle.rare_cli.specs.inner.Prepared.{stop_of_read, stop_of_fault};
 
 use rare_base::{Fault, Place, ReadError, Reason, Status, Text, Texts};
-use rare_check::{Report, Rewrite, StepFault, Verdict};
+use rare_check::{Report, Verdict};
+use rare_proof::StepFault;
 use rare_sexpr::write_symbol;
+use rare_text::Rewrite;
 use std::alloc::{AllocError, Global};
 
 /// A file of the words.

@@ -4,9 +4,9 @@
 ghost use Rattle.std.specs.Prelude.{◌≡◌, ℕ, ◌+◌, ◌-◌, ◌^◌, ◌<◌, ◌≤◌, List, [], ◌∷◌, length, None, IfOk, IfErr, OnOk};
 ghost use Rattle.rare_base.specs.Outside.{most_faults};
 ghost use Rattle.rare_base.specs.Reads.{most_file_bytes, ReadInTurn, ReadToEnd};
-ghost use Rattle.rare_check.specs.TermText.{declared_by};
 ghost use Rattle.rare_sort.specs.DeclaredSorts.{nothing_declared};
-ghost use Rattle.rare_check.specs.Stated.{stated, HaveIds};
+ghost use Rattle.rare_scope.specs.Names.{AreMeant};
+ghost use Rattle.rare_text.specs.Stated.{stated_problem, HaveIds};
 ghost use Rattle.rare_check.specs.Checking.{answer, Refuses};
 ghost use Rattle.rare_check.specs.Verdicts.{ValidAreTrue};
 ghost use Rattle.rare_cli.specs.WordForms.{files_in};
@@ -20,8 +20,9 @@ use crate::outcome::{
     too_long, usage,
 };
 use rare_base::{Fault, Library, Sink, Status, Text, Texts, put_whole, read_whole};
-use rare_check::{Checker, Problem, Report, read_problem};
+use rare_check::{Checker, Report};
 use rare_term::{Plain, Terms};
+use rare_text::{Problem, read_problem};
 use std::alloc::Global;
 
 /// A file's text.
@@ -52,9 +53,9 @@ fn read_problem_file<L: Library, T: Terms>(
 ) -> Result<Problem, Stop>
     requires { (T.state terms.old).declared ≡ nothing_declared }
     ensures ids { IfOk result (λ p. HaveIds (length (T.state terms.new).trees) p.rewrites) }
-    ensures symbols { IfOk result (λ p. (T.state terms.new).declared ≡ declared_by p.scope) }
+    ensures meant { IfOk result (λ p. AreMeant (T.state terms.new) p.scope) }
     ensures problem { IsProblemOf (library L.text L.faults files.old files.new) name.now
-        (T.state terms.new).trees result }
+        (T.state terms.new) result }
     ensures texts { (w : List ℕ) → L.text files.new w ≡ L.text files.old w }
     ensures later { (w : List ℕ) → L.faults files.old w ≤ L.faults files.new w }
     ensures reads { ReadInTurn (L.reads files.old) (L.reads files.new) (name.now ∷ []) }
@@ -88,9 +89,9 @@ fn report_on<T: Terms + Drop>(
     proof: &[u8],
 ) -> Result<Report, Stop>
     requires ids { HaveIds (length (T.state terms).trees) problem.rewrites }
-    requires symbols { (T.state terms).declared ≡ declared_by problem.scope }
+    requires meant { AreMeant (T.state terms) problem.scope }
     requires short { length proof.now ≤ most_file_bytes }
-    ensures { IsReportOn (stated (T.state terms).trees problem) proof.now result }
+    ensures { IsReportOn (stated_problem (T.state terms) problem) proof.now result }
 {
     match finish_with(Checker::new(alloc, terms, problem), proof) {
         Ok(report) => Ok(report),
@@ -106,9 +107,9 @@ fn judge<T: Terms + Drop>(
     proof: &[u8],
 ) -> Result<Answer, Stop>
     requires ids { HaveIds (length (T.state terms).trees) problem.rewrites }
-    requires symbols { (T.state terms).declared ≡ declared_by problem.scope }
+    requires meant { AreMeant (T.state terms) problem.scope }
     requires short { length proof.now ≤ most_file_bytes }
-    ensures { IsAnswerOn (stated (T.state terms).trees problem) proof.now result }
+    ensures { IsAnswerOn (stated_problem (T.state terms) problem) proof.now result }
 {
     let names = names_of(alloc, problem.rewrites.items())?;
     let report = report_on(alloc, terms, problem, proof)?;

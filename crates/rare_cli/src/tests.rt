@@ -3,8 +3,8 @@
 ghost use Rattle.std.specs.Prelude.{◌≡◌, ◌<◌, ◌≤◌, [], ◌∷◌, length, IfOk};
 ghost use Rattle.rare_base.specs.Memory.{faults_of, put_faults};
 ghost use Rattle.rare_base.specs.Reads.{Added, most_file_bytes};
-ghost use Rattle.rare_check.specs.Stated.{HaveIds};
-ghost use Rattle.rare_check.specs.TermText.{declared_by};
+ghost use Rattle.rare_scope.specs.Names.{AreMeant};
+ghost use Rattle.rare_text.specs.Stated.{HaveIds};
 
 use crate::run::{exit_number, run};
 use crate::words::words_of;
@@ -12,8 +12,9 @@ use rare_base::{
     Failed, Fault, Library, MemoryLibrary, MemorySink, NamedText, NamedTexts, Sequence, Status,
     Text, Texts,
 };
-use rare_check::{Checker, Problem, Report, Verdict, read_problem};
+use rare_check::{Checker, Report, Verdict};
 use rare_term::{Plain, Terms};
+use rare_text::{Problem, read_problem};
 use std::alloc::{AllocError, Global};
 use std::marker::Model;
 use std::test::Fail;
@@ -138,6 +139,97 @@ const CASES: &[Case] = &[
     },
 ];
 
+// Runs over terms of the four theories.
+const THEORIES: &[Case] = &[
+    Case {
+        name: "an index beyond a width that is not entailed",
+        problem: "(declare-width n 8)\n(declare-const x (_ BitVec n))\n\
+            (rewrite r1 ((_ extract (- n 2) 0) x) x)",
+        proof: "",
+        status: Status::BadText,
+        number: 3,
+        written: "refused problem 3:13 IllSorted\n",
+        ..ROW
+    },
+    Case {
+        name: "the first numeral that is too wide",
+        problem: "(declare-const y Int)\n(rewrite r1 y 170141183460469231731687303715884105728)",
+        proof: "",
+        status: Status::BadText,
+        number: 3,
+        written: "refused problem 2:15 LiteralTooWide\n",
+        ..ROW
+    },
+    Case {
+        name: "the widest numeral",
+        problem: "(declare-const y Int)\n(rewrite r1 y 170141183460469231731687303715884105727)",
+        proof: "",
+        status: Status::NotAll,
+        number: 1,
+        written: "r1 open\n",
+        ..ROW
+    },
+    Case {
+        name: "a sum beyond the limit has no value",
+        problem: "(rewrite r1 (+ 170141183460469231731687303715884105727 1) 0)",
+        proof: "(step t1 (cl (= (+ 170141183460469231731687303715884105727 1) 0)) :rule evaluate)",
+        status: Status::NotAll,
+        number: 1,
+        written: "invalid t1 NoValue\n",
+        ..ROW
+    },
+    Case {
+        name: "a rule that is not known",
+        proof: "(step t1 (cl (= p p)) :rule resolution)",
+        status: Status::BadText,
+        number: 3,
+        written: "refused proof 1:29 UnknownRule\n",
+        ..ROW
+    },
+    Case {
+        name: "division and products of literals have values",
+        problem: "(rewrite r1 (bvsdiv #b1000 #b1111) #b1000)(rewrite r2 (bvsmod #b1111 #b1000) #b1111)\
+            (rewrite r3 (bvsmod #b1000 #b0000) #b1000)(rewrite r4 (bvsdiv #b1000 #b0000) #b0001)\
+            (rewrite r5 (bvudiv #b1111 #b0000) #b1111)\
+            (rewrite r6 (bvmul (bv (- 1) 128) (bv (- 1) 128)) (_ bv1 128))",
+        proof: "(step t1 (cl (= (bvsdiv #b1000 #b1111) #b1000)) :rule evaluate)(conclude r1 t1)\
+            (step t2 (cl (= (bvsmod #b1111 #b1000) #b1111)) :rule evaluate)(conclude r2 t2)\
+            (step t3 (cl (= (bvsmod #b1000 #b0000) #b1000)) :rule evaluate)(conclude r3 t3)\
+            (step t4 (cl (= (bvsdiv #b1000 #b0000) #b0001)) :rule evaluate)(conclude r4 t4)\
+            (step t5 (cl (= (bvudiv #b1111 #b0000) #b1111)) :rule evaluate)(conclude r5 t5)\
+            (step t6 (cl (= (bvmul (bv (- 1) 128) (bv (- 1) 128)) (_ bv1 128))) :rule evaluate)\
+            (conclude r6 t6)",
+        written: "r1 valid\nr2 valid\nr3 valid\nr4 valid\nr5 valid\nr6 valid\n",
+        ..ROW
+    },
+    Case {
+        name: "sides of two sorts, before an unknown rule",
+        proof: "(step t1 (cl (= p 1)) :rule foo)",
+        status: Status::BadText,
+        number: 3,
+        written: "refused proof 1:1 IllSorted\n",
+        ..ROW
+    },
+    Case {
+        name: "a constraint that is false at the samples",
+        problem: "(declare-width n 4)(assume-width (>= n 5))",
+        proof: "",
+        status: Status::BadText,
+        number: 3,
+        written: "refused problem 1:20 SampleFails\n",
+        ..ROW
+    },
+    Case {
+        name: "a name of a proof, over a symbolic width",
+        problem: "(declare-width n 8)(declare-const x (_ BitVec n))\
+            (rewrite r1 ((_ extract (- n 1) 0) (bvadd x x)) ((_ extract (- n 1) 0) (bvadd x x)))",
+        proof: "(define-fun @1 () (_ BitVec n) (bvadd x x))\
+            (step t1 (cl (= ((_ extract (- n 1) 0) @1) ((_ extract (- n 1) 0) (bvadd x x)))) :rule cong)\
+            (conclude r1 t1)",
+        ..ROW
+    },
+];
+
 fn named(alloc: Global, name: &str, bytes: &str) -> Result<NamedText, AllocError> {
     Ok(NamedText {
         name: Text::of(alloc, name.as_bytes())?,
@@ -163,18 +255,30 @@ fn words(alloc: Global, case: &Case) -> Result<Texts, AllocError> {
     Ok(words)
 }
 
-#[test]
-fn a_run_writes_what_the_words_ask_for(rt: HostRuntime) -> Result<(), Fail> {
-    let alloc = rt.alloc();
-    for case in CASES {
+// The name of the first of some runs that writes something else or has another status.
+fn first_wrong(alloc: Global, cases: &[Case]) -> Result<Option<&'static str>, AllocError> {
+    for case in cases {
         let words = words(alloc, case)?;
         let mut files = library(alloc, case)?;
         let fail = Vec::from_slice(alloc, case.failed_puts)?;
         let mut out = MemorySink::new(alloc, 4, 256, fail)?;
         let status = run(alloc, &words, &mut files, &mut out);
-        assert_eq!(rt; status, case.status, "{}", case.name);
-        assert_eq!(rt; out.bytes(), case.written.as_bytes(), "{}", case.name);
+        if status != case.status || out.bytes() != case.written.as_bytes() {
+            return Ok(Some(case.name));
+        }
     }
+    Ok(None)
+}
+
+#[test]
+fn a_run_writes_what_the_words_ask_for(rt: HostRuntime) -> Result<(), Fail> {
+    assert_eq!(rt; first_wrong(rt.alloc(), CASES)?, None);
+    Ok(())
+}
+
+#[test]
+fn a_run_reads_the_four_theories(rt: HostRuntime) -> Result<(), Fail> {
+    assert_eq!(rt; first_wrong(rt.alloc(), THEORIES)?, None);
     Ok(())
 }
 
@@ -234,7 +338,7 @@ fn report_in_pieces<T: Terms + Drop>(
 ) -> Result<Report, Fault>
     requires some { 0 < piece }
     requires ids { HaveIds (length (T.state terms).trees) problem.rewrites }
-    requires symbols { (T.state terms).declared ≡ declared_by problem.scope }
+    requires meant { AreMeant (T.state terms) problem.scope }
     requires short { length proof.now ≤ most_file_bytes }
 {
     let mut checker = Checker::new(alloc, terms, problem);

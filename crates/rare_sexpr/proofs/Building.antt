@@ -13,14 +13,14 @@ use Rattle.rare_sexpr.specs.Limits.{most_nested_lists}
 use Rattle.rare_sexpr.specs.Bytes.{after, behind, ends_comment}
 use Rattle.rare_sexpr.specs.Grammar.{IsGap, IsLastGap, is_one_line, Bare, Atom, Spell, Spells}
 use Rattle.rare_sexpr.specs.Grammar as grammar
-use Rattle.rare_sexpr.specs.Faults.{BeginsBare, IsBadWord, MayStandBefore, Fails, IsFault}
+use Rattle.rare_sexpr.specs.Faults.{BeginsBare, IsBadWord, MayStandBefore, HasFaultIn, IsFault}
 use Rattle.rare_sexpr.specs.Faults as faults
 use Rattle.rare_sexpr.specs.inner.Classes.{class}
 use Rattle.rare_sexpr.specs.inner.Scan.{whole}
 use Rattle.rare_sexpr.specs.inner.Words.{text_of_word}
 use Rattle.rare_sexpr.specs.inner.Gaps.{Passes}
 use Rattle.rare_sexpr.specs.inner.Gaps as gaps
-use Rattle.rare_sexpr.specs.inner.States.{State, HasAtom, HasWord, word_of, Takes, Reads, Gives, Refuses}
+use Rattle.rare_sexpr.specs.inner.States.{TextState, HasAtom, HasWord, atom_in, Takes, Reads, GivesCommand, Refuses}
 use Rattle.rare_sexpr.specs.inner.States as states
 use Rattle.rare_sexpr.specs.inner.Built.{Inside, outside, list, Built}
 use Rattle.rare_sexpr.proofs.Lists.{behind_append}
@@ -180,7 +180,7 @@ pub close_byte : (b : ℕ) → class b ≡ Close → b ≡ 41
 close_byte b is = subst (λ k. IsOf k b) is (class_tests b)
 
 -- an atom behind a gap
-word_spelled : (p : Place) (d : ℕ) (s : State) (k : AtomKind) (n : ℕ) (place : Place) (passed : List ℕ) → HasWord s k n → IsGap passed → s.place ≡ behind place passed → Spell d (word_of s k n ∷ []) place (passed ++ take n s.bytes) (drop n s.bytes)
+word_spelled : (p : Place) (d : ℕ) (s : TextState) (k : AtomKind) (n : ℕ) (place : Place) (passed : List ℕ) → HasWord s k n → IsGap passed → s.place ≡ behind place passed → Spell d (atom_in s k n ∷ []) place (passed ++ take n s.bytes) (drop n s.bytes)
 word_spelled p d s k n place passed h g at =
     let word = take n s.bytes in
     let sound = word_sound s.bytes h.atom.part (whole k n) h.atom.some h.atom.begins h.atom.comes in
@@ -196,7 +196,7 @@ pub none_left : (n : ℕ) (os : List Opened) → n + length os ≡ most_nested_l
 none_left n os e lt = grind (arith, nat_tests)
 
 -- one word
-pub built_takes : (p : Place) (bytes : List ℕ) (s t : State) → Built p bytes s → Takes s t → Built p bytes t
+pub built_takes : (p : Place) (bytes : List ℕ) (s t : TextState) → Built p bytes s → Takes s t → Built p bytes t
 built_takes p bytes s t h (states.gap _ _ passed at place passes lists items) = record {
   nesting = h.nesting;
   place = h.place;
@@ -213,7 +213,7 @@ built_takes p bytes s t h (states.opens _ _ b plain at is few to) =
     let o : Opened = record { place = behind h.place h.passed; before = length s.items } in
     let begin = behind h.place (h.passed ++ 40 ∷ []) in
     let e : s.bytes ≡ 40 ∷ t.bytes = at ∙ ap (λ x. x ∷ t.bytes) (open_byte b is) in
-    let next : State = record { opens = record { place = s.place; before = length s.items } ∷ s.opens; items = s.items; in_comment = false; place = after b s.place; bytes = t.bytes } in
+    let next : TextState = record { opens = record { place = s.place; before = length s.items } ∷ s.opens; items = s.items; in_comment = false; place = after b s.place; bytes = t.bytes } in
     subst (Built p bytes) (sym to)
     (record {
       nesting = m.0;
@@ -249,13 +249,13 @@ built_takes p bytes s t h (states.atom _ _ k n o os w lists to) =
       nesting = h.nesting;
       place = behind h.place (h.passed ++ word);
       passed = [];
-      inside = inside_more p bytes h.nesting s.opens s.items (word_of s k n ∷ []) h.place (h.passed ++ s.bytes) (h.passed ++ word) (drop n s.bytes) h.inside some
+      inside = inside_more p bytes h.nesting s.opens s.items (atom_in s k n ∷ []) h.place (h.passed ++ s.bytes) (h.passed ++ word) (drop n s.bytes) h.inside some
           (ap (λ x. h.passed ++ x) (take_drop n s.bytes) ∙ sym (append3 h.passed word (drop n s.bytes))) (word_spelled p h.nesting s k n h.place h.passed w g h.behind_gap);
       passes = gaps.none false;
       behind_gap = ap (λ x. behind x word) h.behind_gap ∙ sym (behind_append h.place h.passed word);
     })
 
-pub built_reads : (p : Place) (bytes : List ℕ) (s t : State) → Built p bytes s → Reads s t → Built p bytes t
+pub built_reads : (p : Place) (bytes : List ℕ) (s t : TextState) → Built p bytes s → Reads s t → Built p bytes t
 built_reads p bytes s t h (states.stays _) = h
 built_reads p bytes s t h (states.goes _ u _ r k) = built_takes p bytes u t (built_reads p bytes s u h r) k
 
@@ -271,7 +271,7 @@ pub record Given (p : Place) (bytes : List ℕ) (e : Sexpr) (q : Place) (rest : 
   pub place : q ≡ behind p word
   pub spelled : Spells e p word rest
 
-pub built_gives : (p : Place) (bytes : List ℕ) (s : State) (e : Sexpr) (q : Place) (rest : List ℕ) → Built p bytes s → Gives s e q rest → Given p bytes e q rest
+pub built_gives : (p : Place) (bytes : List ℕ) (s : TextState) (e : Sexpr) (q : Place) (rest : List ℕ) → Built p bytes s → GivesCommand s e q rest → Given p bytes e q rest
 built_gives p bytes s e q rest h (states.atom _ k n w lists) =
     let g = whole_gap h.passed s.in_comment w.atom.between h.passes in
     let i = inside_none p bytes h.nesting s.opens s.items h.place (h.passed ++ s.bytes) h.inside lists in
@@ -280,7 +280,7 @@ built_gives p bytes s e q rest h (states.atom _ k n w lists) =
       word = h.passed ++ word;
       split = sym i.2 ∙ ap (λ x. h.passed ++ x) (take_drop n s.bytes) ∙ sym (append3 h.passed word (drop n s.bytes));
       place = ap (λ x. behind x word) h.behind_gap ∙ sym (behind_append h.place h.passed word) ∙ ap (λ x. behind x (h.passed ++ word)) i.1;
-      spelled = subst (λ x. Spell most_nested_lists (word_of s k n ∷ []) x (h.passed ++ word) (drop n s.bytes)) i.1 (word_spelled p most_nested_lists s k n h.place h.passed w g h.behind_gap);
+      spelled = subst (λ x. Spell most_nested_lists (atom_in s k n ∷ []) x (h.passed ++ word) (drop n s.bytes)) i.1 (word_spelled p most_nested_lists s k n h.place h.passed w g h.behind_gap);
     }
 built_gives p bytes s e q rest h (states.closes _ b _ o plain at is lists) =
     let g = whole_gap h.passed s.in_comment plain h.passes in
@@ -294,7 +294,7 @@ built_gives p bytes s e q rest h (states.closes _ b _ o plain at is lists) =
       spelled = subst (λ x. Spell most_nested_lists (list_of o.place (drop o.before s.items) ∷ []) x c.piece rest) i.1 (subst (λ x. Spell x (list_of o.place (drop o.before s.items) ∷ []) c.place c.piece rest) i.0 c.spelled);
     }
 
-pub built_finished : (p : Place) (bytes : List ℕ) (s : State) → Built p bytes s → s.bytes ≡ [] → s.opens ≡ [] → IsLastGap bytes
+pub built_finished : (p : Place) (bytes : List ℕ) (s : TextState) → Built p bytes s → s.bytes ≡ [] → s.opens ≡ [] → IsLastGap bytes
 built_finished p bytes s h none lists =
     let i = inside_none p bytes h.nesting s.opens s.items h.place (h.passed ++ s.bytes) h.inside lists in
     subst IsLastGap (sym (sym i.2 ∙ ap (λ x. h.passed ++ x) none ∙ no_more h.passed)) (last_gap h.passed s.in_comment h.passes)
@@ -310,20 +310,20 @@ stands es (x ∷ qs) q = tt
 
 -- a fault behind the items of the innermost list
 abbrev pub FaultFrom : ℕ → List Opened → Place → List ℕ → Refusal → Type 0
-FaultFrom d os q rest r = (es : List Sexpr) (a : Place) (front : List ℕ) → MayStandBefore es (places os) → Spell d es a front rest → q ≡ behind a front → Fails d (places os) a (front ++ rest) r
+FaultFrom d os q rest r = (es : List Sexpr) (a : Place) (front : List ℕ) → MayStandBefore es (places os) → Spell d es a front rest → q ≡ behind a front → HasFaultIn d (places os) a (front ++ rest) r
 
 pub fails_out : (p : Place) (bytes : List ℕ) (d : ℕ) (os : List Opened) (items : List Sexpr) (q : Place) (rest : List ℕ) (r : Refusal) → Inside p bytes d os items q rest → FaultFrom d os q rest r → IsFault p bytes r
 fails_out p bytes d os items q rest r outside f = f [] p [] refl (grammar.none most_nested_lists p bytes) refl
 fails_out p bytes d os items q rest r (list _ os' items' own q' gap front _ h g s) f =
     let begin = behind q' (gap ++ 40 ∷ []) in
     let o : Opened = record { place = behind q' gap; before = length items' } in
-    let inner : Fails d (places os' ++ behind q' gap ∷ []) begin (front ++ rest) r = f own begin front (stands own (places os') (behind q' gap)) s refl in
+    let inner : HasFaultIn d (places os' ++ behind q' gap ∷ []) begin (front ++ rest) r = f own begin front (stands own (places os') (behind q' gap)) s refl in
     fails_out p bytes (suc d) os' items' q' (gap ++ 40 ∷ (front ++ rest)) r h
     (λ es a before may spelled at.
     let one : behind q' gap ≡ behind a (before ++ gap) = ap (λ x. behind x gap) at ∙ sym (behind_append a before gap) in
     let two : begin ≡ behind a (before ++ (gap ++ 40 ∷ [])) = ap (λ x. behind x (gap ++ 40 ∷ [])) at ∙ sym (behind_append a before (gap ++ 40 ∷ [])) in
     faults.within d es (places os') a before gap (front ++ rest) r may spelled g
-    (subst (λ x. Fails d (places os' ++ x ∷ []) (behind a (before ++ (gap ++ 40 ∷ []))) (front ++ rest) r) one (subst (λ x. Fails d (places os' ++ behind q' gap ∷ []) x (front ++ rest) r) two inner)))
+    (subst (λ x. HasFaultIn d (places os' ++ x ∷ []) (behind a (before ++ (gap ++ 40 ∷ []))) (front ++ rest) r) one (subst (λ x. HasFaultIn d (places os' ++ behind q' gap ∷ []) x (front ++ rest) r) two inner)))
 
 -- a word that is none
 take_length : (n : ℕ) (xs : List ℕ) → n ≤ length xs → length (take n xs) ≡ n
@@ -331,7 +331,7 @@ take_length zero xs le = refl
 take_length (suc n) [] le = absurd (omega (arith, le))
 take_length (suc n) (x ∷ xs) le = omega (arith, take_length n xs (omega (arith, le)))
 
-pub word_fault : (p : Place) (bytes : List ℕ) (s : State) (n : ℕ) (q : Place) (reason : Reason) → Built p bytes s → s.in_comment ≡ false → n ≤ length s.bytes → IsBadWord s.bytes n reason → q ≡ behind s.place (take n s.bytes) → IsFault p bytes (record { place = q; reason = reason })
+pub word_fault : (p : Place) (bytes : List ℕ) (s : TextState) (n : ℕ) (q : Place) (reason : Reason) → Built p bytes s → s.in_comment ≡ false → n ≤ length s.bytes → IsBadWord s.bytes n reason → q ≡ behind s.place (take n s.bytes) → IsFault p bytes (record { place = q; reason = reason })
 word_fault p bytes s n q reason h plain le bad_word at =
     let g = whole_gap h.passed s.in_comment plain h.passes in
     let good = take n s.bytes in
@@ -342,7 +342,7 @@ word_fault p bytes s n q reason h plain le bad_word at =
     (λ es a front may spelled is.
     let where_it_is : q ≡ behind a (front ++ (h.passed ++ good)) =
     at ∙ ap (λ x. behind x good) (h.behind_gap ∙ ap (λ x. behind x h.passed) is ∙ sym (behind_append a front h.passed)) ∙ sym (behind_append a (front ++ h.passed) good) ∙ ap (behind a) (append3 front h.passed good) in
-    subst (λ x. Fails h.nesting (places s.opens) a (front ++ (h.passed ++ s.bytes)) (record { place = x; reason = reason })) (sym where_it_is)
-    (subst (λ x. Fails h.nesting (places s.opens) a (front ++ (h.passed ++ x)) (record { place = behind a (front ++ (h.passed ++ good)); reason = reason })) (sym split)
+    subst (λ x. HasFaultIn h.nesting (places s.opens) a (front ++ (h.passed ++ s.bytes)) (record { place = x; reason = reason })) (sym where_it_is)
+    (subst (λ x. HasFaultIn h.nesting (places s.opens) a (front ++ (h.passed ++ x)) (record { place = behind a (front ++ (h.passed ++ good)); reason = reason })) (sym split)
     (faults.word h.nesting es (places s.opens) a front h.passed good rest reason may (subst (λ x. Spell h.nesting es a front (h.passed ++ x)) split spelled) g
     (subst (λ x. IsBadWord (good ++ rest) x reason) len (subst (λ x. IsBadWord x n reason) split bad_word)))))

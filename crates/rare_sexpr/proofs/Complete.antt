@@ -24,7 +24,7 @@ use Rattle.rare_sexpr.specs.Written.{doubled}
 use Rattle.rare_sexpr.specs.Commands.{Commands, put_first, refused}
 use Rattle.rare_sexpr.specs.Grammar.{IsGap, IsLastGap, is_one_line, Are, Bare, Atom, may_follow_bare, has_quote_first, Spell, Spells}
 use Rattle.rare_sexpr.specs.Grammar as grammar
-use Rattle.rare_sexpr.specs.Faults.{BeginsBare, MayEnd, IsBadWord, MayStandBefore, Fails, IsFault}
+use Rattle.rare_sexpr.specs.Faults.{BeginsBare, MayEnd, IsBadWord, MayStandBefore, HasFaultIn, IsFault}
 use Rattle.rare_sexpr.specs.Faults as faults
 use Rattle.rare_sexpr.specs.TextGrammar.{AreCommands}
 use Rattle.rare_sexpr.specs.TextGrammar as texts
@@ -475,7 +475,7 @@ front_words d es p front rest [] items may s n =
     (items, ap (λ x. commands [] items (words between p (x ++ rest))) none ∙ ap (λ x. commands [] items (words between (behind p x) rest)) (sym none))
 front_words d es p front rest (o ∷ os) items may s n = (items ++ es, inside_words d es p front rest o os items s n)
 
-pub fails_words : (d : ℕ) (qs : List Place) (p : Place) (bytes : List ℕ) (r : Refusal) (os : List Opened) (items : List Sexpr) → Fails d qs p bytes r → qs ≡ places os → length os + d ≡ most_nested_lists →
+pub fails_words : (d : ℕ) (qs : List Place) (p : Place) (bytes : List ℕ) (r : Refusal) (os : List Opened) (items : List Sexpr) → HasFaultIn d qs p bytes r → qs ≡ places os → length os + d ≡ most_nested_lists →
     commands os items (words between p bytes) ≡ refused r.place r.reason
 fails_words d qs p bytes r os items (faults.closed _ _ gap rest g) e n =
     ap (commands os items) (gap_words gap (41 ∷ rest) p g) ∙ ap (λ x. commands x items (words between (behind p gap) (41 ∷ rest))) (no_places os (sym e))

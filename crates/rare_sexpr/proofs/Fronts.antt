@@ -3,7 +3,7 @@ use Rattle.std.proofs.Common.{◌≡◌, ℕ, zero, suc, ◌+◌, ◌-◌, ◌<�
 use Rattle.rare_base.specs.declared.answers.Place.{Place}
 use Rattle.rare_sexpr.specs.declared.tree.Sexpr.{Sexpr}
 use Rattle.rare_sexpr.specs.Bytes.{behind}
-use Rattle.rare_sexpr.specs.inner.States.{State, Takes, Reads, Gives}
+use Rattle.rare_sexpr.specs.inner.States.{TextState, Takes, Reads, GivesCommand}
 use Rattle.rare_sexpr.specs.inner.States as states
 use Rattle.rare_sexpr.proofs.Lists.{take_front, behind_append}
 use Rattle.rare_sexpr.proofs.Moves.{drop_twice}
@@ -26,18 +26,18 @@ leads_more p a q b r c h k = record {
   place = k.place ∙ ap (λ x. behind x k.front) h.place ∙ sym (behind_append p h.front k.front);
 }
 
-takes_front : (s t : State) → Takes s t → Leads s.place s.bytes t.place t.bytes
+takes_front : (s t : TextState) → Takes s t → Leads s.place s.bytes t.place t.bytes
 takes_front s t (states.gap _ _ passed at place passes lists items) = record { front = passed; split = at; place = place }
 takes_front s t (states.opens _ _ b plain at is few to) = record { front = b ∷ []; split = at; place = ap (λ x. x.place) to }
 takes_front s t (states.closes _ _ b o q os plain at is lists to) = record { front = b ∷ []; split = at; place = ap (λ x. x.place) to }
 takes_front s t (states.atom _ _ k n o os h lists to) =
     record { front = take n s.bytes; split = take_drop n s.bytes ∙ ap (λ x. take n s.bytes ++ x.bytes) (sym to); place = ap (λ x. x.place) to }
 
-pub reads_front : (s t : State) → Reads s t → Leads s.place s.bytes t.place t.bytes
+pub reads_front : (s t : TextState) → Reads s t → Leads s.place s.bytes t.place t.bytes
 reads_front s t (states.stays _) = record { front = []; split = refl; place = refl }
 reads_front s t (states.goes _ u _ r k) = leads_more s.place s.bytes u.place u.bytes t.place t.bytes (reads_front s u r) (takes_front u t k)
 
-pub gives_front : (s : State) (e : Sexpr) (p : Place) (rest : List ℕ) → Gives s e p rest → Leads s.place s.bytes p rest
+pub gives_front : (s : TextState) (e : Sexpr) (p : Place) (rest : List ℕ) → GivesCommand s e p rest → Leads s.place s.bytes p rest
 gives_front s e p rest (states.atom _ k n h none) = record { front = take n s.bytes; split = take_drop n s.bytes; place = refl }
 gives_front s e p rest (states.closes _ b _ o plain at is lists) = record { front = b ∷ []; split = at; place = refl }
 

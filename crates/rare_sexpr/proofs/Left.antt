@@ -18,7 +18,7 @@ use Rattle.rare_sexpr.specs.inner.Words.{Token, closes, atom, wrong, Mode, betwe
 use Rattle.rare_sexpr.specs.inner.Gaps.{Passes}
 use Rattle.rare_sexpr.specs.inner.Gaps as gaps
 use Rattle.rare_sexpr.specs.inner.Reading.{reading_from, outermost, commands, ended}
-use Rattle.rare_sexpr.specs.inner.States.{State, left, HasAtom, HasWord, word_of, Takes, Reads, Gives, Refuses}
+use Rattle.rare_sexpr.specs.inner.States.{TextState, left, HasAtom, HasWord, atom_in, Takes, Reads, GivesCommand, Refuses}
 use Rattle.rare_sexpr.specs.inner.States as states
 
 either : (x y : Bool) {P : Type 0} → (x || y) ≡ true → (x ≡ true → P) → (y ≡ true → P) → P
@@ -83,16 +83,16 @@ words_cut [] p q r e is some = absurd (omega (arith, some))
 words_cut (b ∷ bs) p q r e is some = words_atom b bs p q (cut r) e is
 
 -- the commands that are left, where the words are these
-left_words : (s : State) (ts : List Token) → s.in_comment ≡ false → words between s.place s.bytes ≡ ts → left s ≡ commands s.opens s.items ts
+left_words : (s : TextState) (ts : List Token) → s.in_comment ≡ false → words between s.place s.bytes ≡ ts → left s ≡ commands s.opens s.items ts
 left_words s ts is e = ap (λ c. commands s.opens s.items (words (gap_mode c) s.place s.bytes)) is ∙ ap (commands s.opens s.items) e
 
-left_byte : (s : State) (b : ℕ) (rest : List ℕ) (k : Class) → s.in_comment ≡ false → s.bytes ≡ b ∷ rest → class b ≡ k → left s ≡ commands s.opens s.items (begins k b s.place rest (λ m. words m (after b s.place) rest))
+left_byte : (s : TextState) (b : ℕ) (rest : List ℕ) (k : Class) → s.in_comment ≡ false → s.bytes ≡ b ∷ rest → class b ≡ k → left s ≡ commands s.opens s.items (begins k b s.place rest (λ m. words m (after b s.place) rest))
 left_byte s b rest k plain at is = left_words s _ plain (ap (words between s.place) at ∙ ap (λ c. begins c b s.place rest (λ m. words m (after b s.place) rest)) is)
 
-left_atom : (s : State) (k : AtomKind) (n : ℕ) → HasWord s k n → left s ≡ commands s.opens s.items (atom s.place k (text_of_word k (take n s.bytes)) ∷ words between (behind s.place (take n s.bytes)) (drop n s.bytes))
+left_atom : (s : TextState) (k : AtomKind) (n : ℕ) → HasWord s k n → left s ≡ commands s.opens s.items (atom s.place k (text_of_word k (take n s.bytes)) ∷ words between (behind s.place (take n s.bytes)) (drop n s.bytes))
 left_atom s k n h = left_words s _ h.atom.between (words_whole s.bytes s.place h.atom.part k n h.atom.begins h.atom.comes h.some h.within)
 
-takes_left : (s t : State) → Takes s t → left s ≡ left t
+takes_left : (s t : TextState) → Takes s t → left s ≡ left t
 takes_left s t (states.gap _ _ passed at place passes lists items) =
     ap (λ xs. commands s.opens s.items (words (gap_mode s.in_comment) s.place xs)) at
     ∙ ap (commands s.opens s.items) (passes_words s.in_comment passed t.in_comment s.place t.bytes passes)
@@ -111,14 +111,14 @@ takes_left s t (states.closes _ _ b o q os plain at is lists to) =
 takes_left s t (states.atom _ _ k n o os h lists to) =
     left_atom s k n h
     ∙ ap (λ x. commands x s.items (atom s.place k (text_of_word k (take n s.bytes)) ∷ words between (behind s.place (take n s.bytes)) (drop n s.bytes))) lists
-    ∙ ap (λ x. commands x (s.items ++ word_of s k n ∷ []) (words between (behind s.place (take n s.bytes)) (drop n s.bytes))) (sym lists)
+    ∙ ap (λ x. commands x (s.items ++ atom_in s k n ∷ []) (words between (behind s.place (take n s.bytes)) (drop n s.bytes))) (sym lists)
     ∙ ap left (sym to)
 
-pub reads_left : (s t : State) → Reads s t → left s ≡ left t
+pub reads_left : (s t : TextState) → Reads s t → left s ≡ left t
 reads_left s t (states.stays _) = refl
 reads_left s t (states.goes _ u _ r k) = reads_left s u r ∙ takes_left u t k
 
-pub gives_left : (s : State) (e : Sexpr) (p : Place) (rest : List ℕ) → Gives s e p rest → left s ≡ put_first e (reading_from p rest)
+pub gives_left : (s : TextState) (e : Sexpr) (p : Place) (rest : List ℕ) → GivesCommand s e p rest → left s ≡ put_first e (reading_from p rest)
 gives_left s e p rest (states.atom _ k n h none) =
     left_atom s k n h ∙ ap (λ x. commands x s.items (atom s.place k (text_of_word k (take n s.bytes)) ∷ words between (behind s.place (take n s.bytes)) (drop n s.bytes))) none
 gives_left s e p rest (states.closes _ b _ o plain at is lists) = left_byte s b rest Close plain at is ∙ ap (λ x. commands x s.items (closes s.place ∷ words between (after b s.place) rest)) lists
@@ -131,10 +131,10 @@ words_none : (c : Bool) (p : Place) → words (gap_mode c) p [] ≡ []
 words_none true p = refl
 words_none false p = refl
 
-pub finished_left : (s : State) → s.bytes ≡ [] → left s ≡ ended s.opens
+pub finished_left : (s : TextState) → s.bytes ≡ [] → left s ≡ ended s.opens
 finished_left s none = ap (λ xs. commands s.opens s.items (words (gap_mode s.in_comment) s.place xs)) none ∙ ap (commands s.opens s.items) (words_none s.in_comment s.place)
 
-pub refuses_left : (s : State) (p : Place) (r : Reason) → Refuses s p r → left s ≡ refused p r
+pub refuses_left : (s : TextState) (p : Place) (r : Reason) → Refuses s p r → left s ≡ refused p r
 refuses_left s p r (states.closed _ b rest plain at is none) = left_byte s b rest Close plain at is ∙ ap (λ x. commands x s.items (closes s.place ∷ words between (after b s.place) rest)) none
 refuses_left s p r (states.ended _ none some) = finished_left s none ∙ ended_left s.opens s.place some
 refuses_left s p r (states.deep _ b rest plain at is many) =

@@ -21,7 +21,7 @@ use Rattle.rare_sexpr.specs.inner.Words.{text_of_word}
 use Rattle.rare_sexpr.specs.inner.Wording.{Comes, IsWord}
 use Rattle.rare_sexpr.specs.inner.Stacks.{empty_stack, IsAdded, IsClosed}
 use Rattle.rare_sexpr.specs.inner.Reading.{outermost}
-use Rattle.rare_sexpr.specs.inner.States.{State, Takes, Reads, Gives, Refuses, HasAtom, HasWord, word_of}
+use Rattle.rare_sexpr.specs.inner.States.{TextState, Takes, Reads, GivesCommand, Refuses, HasAtom, HasWord, atom_in}
 use Rattle.rare_sexpr.specs.inner.States as states
 use Rattle.rare_sexpr.specs.inner.Parsing.{passed_byte, is_comment, state_at, AreItems, IsParsing, HasPassed, HasGone, HasCommand, IsFaulty}
 use Rattle.rare_sexpr.proofs.Lists.{take_front, drop_front, first_front, longer}
@@ -110,7 +110,7 @@ close_command bytes told old e x mid new h lt between is c a =
       between = refl;
       gives = λ more _.
           let s = state_at old bytes more in
-          (s, states.stays s, subst (λ y. Gives s y (after b old.place) (drop (old.at + 1) bytes ++ more)) (sym (a.1 ∙ c.closed)) (states.closes s b (drop (old.at + 1) bytes ++ more) c.list between (drop_byte bytes old.at more lt) is one));
+          (s, states.stays s, subst (λ y. GivesCommand s y (after b old.place) (drop (old.at + 1) bytes ++ more)) (sym (a.1 ∙ c.closed)) (states.closes s b (drop (old.at + 1) bytes ++ more) c.list between (drop_byte bytes old.at more lt) is one));
     }
 
 items_closed : (o q : Opened) (os : List Opened) (items others : List Sexpr) → AreItems (o ∷ q ∷ os) items → AreItems (q ∷ os) others
@@ -238,9 +238,9 @@ atom_command bytes told old k n text x new h between w is a =
           let same = slice_word bytes old.at n more w.1 in (
             s,
             states.stays s,
-            subst (λ y. Gives s y (behind old.place word) (drop (old.at + n) bytes ++ more)) (sym (a.1 ∙ ap (atom_of old.place k) is))
-                (subst (λ y. Gives s (atom_of old.place k (text_of_word k y)) (behind old.place y) (drop (old.at + n) bytes ++ more)) same
-                (subst (λ y. Gives s (word_of s k n) (behind old.place (take n s.bytes)) y) (rest_word bytes old.at n more w.1)
+            subst (λ y. GivesCommand s y (behind old.place word) (drop (old.at + n) bytes ++ more)) (sym (a.1 ∙ ap (atom_of old.place k) is))
+                (subst (λ y. GivesCommand s (atom_of old.place k (text_of_word k y)) (behind old.place y) (drop (old.at + n) bytes ++ more)) same
+                (subst (λ y. GivesCommand s (atom_in s k n) (behind old.place (take n s.bytes)) y) (rest_word bytes old.at n more w.1)
                 (states.atom s k n (word_state bytes told old k n more between w none) (ap reverse a.0)))),
           );
     }
@@ -275,7 +275,7 @@ atom_inside bytes told old k n text new (o ∷ os) h between w is a some =
           ∙ ap (λ y. record { opens = s.opens; items = y.items; in_comment = false; place = behind old.place word; bytes = rest }) a.1
           ∙ ap (λ y. record { opens = s.opens; items = old.stack.items ++ atom_of old.place k y ∷ []; in_comment = false; place = behind old.place word; bytes = rest }) is
           ∙ ap (λ y. record { opens = s.opens; items = old.stack.items ++ atom_of old.place k (text_of_word k y) ∷ []; in_comment = false; place = behind old.place y; bytes = rest }) (sym same)
-          ∙ ap (λ y. record { opens = s.opens; items = s.items ++ word_of s k n ∷ []; in_comment = false; place = behind old.place (take n s.bytes); bytes = y }) (sym (rest_word bytes old.at n more w.1))));
+          ∙ ap (λ y. record { opens = s.opens; items = s.items ++ atom_in s k n ∷ []; in_comment = false; place = behind old.place (take n s.bytes); bytes = y }) (sym (rest_word bytes old.at n more w.1))));
     }
 
 pub atom_goes : (bytes : List ℕ) (told : Bool) (old : Parser) (k : AtomKind) (n : ℕ) (text : List ℕ) (new : Stack) → IsParsing bytes old → is_comment old.mode ≡ false → IsWord (drop old.at bytes) told (found.Atom k n) →

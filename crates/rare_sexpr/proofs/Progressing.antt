@@ -26,7 +26,7 @@ use Rattle.rare_sexpr.specs.inner.Scan.{Word, whole, bad, cut, scan, advance, on
 use Rattle.rare_sexpr.specs.inner.Gaps.{Passes}
 use Rattle.rare_sexpr.specs.inner.Gaps as gaps
 use Rattle.rare_sexpr.specs.inner.Reading.{outermost, ended}
-use Rattle.rare_sexpr.specs.inner.States.{State, left, HasAtom, HasWord, word_of, Takes, Reads, Gives, Refuses}
+use Rattle.rare_sexpr.specs.inner.States.{TextState, left, HasAtom, HasWord, atom_in, Takes, Reads, GivesCommand, Refuses}
 use Rattle.rare_sexpr.specs.inner.States as states
 use Rattle.rare_sexpr.specs.inner.Kept.{begin_at}
 use Rattle.rare_sexpr.proofs.ClassTests.{IsOf, class_tests}
@@ -74,56 +74,56 @@ scan_within [] p n = end_within p n
 scan_within (b ∷ bs) p n = step_within (advance p b) n (length bs) (λ q. scan q (n + 1) bs) (λ q. scan_within bs q (n + 1))
 
 -- what a text comes to
-pub data Comes : State → Type 0 where
-  command : (s t : State) (e : Sexpr) (q : Place) (rest : List ℕ) → Reads s t → Gives t e q rest → Comes s
-  fault : (s t : State) (q : Place) (r : Reason) → Reads s t → Refuses t q r → Comes s
-  end : (s t : State) → Reads s t → t.bytes ≡ [] → t.opens ≡ [] → Comes s
+pub data Comes : TextState → Type 0 where
+  command : (s t : TextState) (e : Sexpr) (q : Place) (rest : List ℕ) → Reads s t → GivesCommand t e q rest → Comes s
+  fault : (s t : TextState) (q : Place) (r : Reason) → Reads s t → Refuses t q r → Comes s
+  end : (s t : TextState) → Reads s t → t.bytes ≡ [] → t.opens ≡ [] → Comes s
 
-comes_behind : (s t : State) → Takes s t → Comes t → Comes s
+comes_behind : (s t : TextState) → Takes s t → Comes t → Comes s
 comes_behind s t k (command _ u e q rest r g) = command s u e q rest (reads_more s t u (states.goes s s t (states.stays s) k) r) g
 comes_behind s t k (fault _ u q r h f) = fault s u q r (reads_more s t u (states.goes s s t (states.stays s) k) h) f
 comes_behind s t k (end _ u r b o) = end s u (reads_more s t u (states.goes s s t (states.stays s) k) r) b o
 
 -- the rest of a text is shorter
 abbrev Rest : ℕ → Type 0
-Rest n = (t : State) → length t.bytes ≤ n → Comes t
+Rest n = (t : TextState) → length t.bytes ≤ n → Comes t
 
-gap_comes : (n : ℕ) (s : State) (b : ℕ) (bs : List ℕ) (d : Bool) → Rest n → s.bytes ≡ b ∷ bs → length s.bytes ≤ suc n → Passes s.in_comment (b ∷ []) d → Comes s
+gap_comes : (n : ℕ) (s : TextState) (b : ℕ) (bs : List ℕ) (d : Bool) → Rest n → s.bytes ≡ b ∷ bs → length s.bytes ≤ suc n → Passes s.in_comment (b ∷ []) d → Comes s
 gap_comes n s b bs d rest at le passes =
-    let t : State = record { opens = s.opens; items = s.items; in_comment = d; place = after b s.place; bytes = bs } in
+    let t : TextState = record { opens = s.opens; items = s.items; in_comment = d; place = after b s.place; bytes = bs } in
     comes_behind s t (states.gap s t (b ∷ []) at refl passes refl refl) (rest t (omega (arith, ap length at, le)))
 
-open_comes : (n : ℕ) (s : State) (b : ℕ) (bs : List ℕ) (few : Bool) → Rest n → s.in_comment ≡ false → s.bytes ≡ b ∷ bs → length s.bytes ≤ suc n → class b ≡ Open → nat_lt (length s.opens) most_nested_lists ≡ few → Comes s
+open_comes : (n : ℕ) (s : TextState) (b : ℕ) (bs : List ℕ) (few : Bool) → Rest n → s.in_comment ≡ false → s.bytes ≡ b ∷ bs → length s.bytes ≤ suc n → class b ≡ Open → nat_lt (length s.opens) most_nested_lists ≡ few → Comes s
 open_comes n s b bs true rest plain at le is few =
-    let t : State = record { opens = record { place = s.place; before = length s.items } ∷ s.opens; items = s.items; in_comment = false; place = after b s.place; bytes = bs } in
+    let t : TextState = record { opens = record { place = s.place; before = length s.items } ∷ s.opens; items = s.items; in_comment = false; place = after b s.place; bytes = bs } in
     comes_behind s t (states.opens s t b plain at is few refl) (rest t (omega (arith, ap length at, le)))
 open_comes n s b bs false rest plain at le is many = fault s s s.place TooDeep (states.stays s) (states.deep s b bs plain at is many)
 
-close_comes : (n : ℕ) (s : State) (b : ℕ) (bs : List ℕ) (os : List Opened) → Rest n → s.in_comment ≡ false → s.bytes ≡ b ∷ bs → length s.bytes ≤ suc n → class b ≡ Close → s.opens ≡ os → Comes s
+close_comes : (n : ℕ) (s : TextState) (b : ℕ) (bs : List ℕ) (os : List Opened) → Rest n → s.in_comment ≡ false → s.bytes ≡ b ∷ bs → length s.bytes ≤ suc n → class b ≡ Close → s.opens ≡ os → Comes s
 close_comes n s b bs [] rest plain at le is lists = fault s s s.place Unbalanced (states.stays s) (states.closed s b bs plain at is lists)
 close_comes n s b bs (o ∷ []) rest plain at le is lists = command s s (list_of o.place (drop o.before s.items)) (after b s.place) bs (states.stays s) (states.closes s b bs o plain at is lists)
 close_comes n s b bs (o ∷ q ∷ os) rest plain at le is lists =
-    let t : State = record { opens = q ∷ os; items = take o.before s.items ++ list_of o.place (drop o.before s.items) ∷ []; in_comment = false; place = after b s.place; bytes = bs } in
+    let t : TextState = record { opens = q ∷ os; items = take o.before s.items ++ list_of o.place (drop o.before s.items) ∷ []; in_comment = false; place = after b s.place; bytes = bs } in
     comes_behind s t (states.closes s t b o q os plain at is lists refl) (rest t (omega (arith, ap length at, le)))
 
-word_comes : (n : ℕ) (s : State) (k : AtomKind) (m : ℕ) (os : List Opened) → Rest n → HasWord s k m → length s.bytes ≤ suc n → s.opens ≡ os → Comes s
-word_comes n s k m [] rest h le lists = command s s (word_of s k m) (behind s.place (take m s.bytes)) (drop m s.bytes) (states.stays s) (states.atom s k m h lists)
+word_comes : (n : ℕ) (s : TextState) (k : AtomKind) (m : ℕ) (os : List Opened) → Rest n → HasWord s k m → length s.bytes ≤ suc n → s.opens ≡ os → Comes s
+word_comes n s k m [] rest h le lists = command s s (atom_in s k m) (behind s.place (take m s.bytes)) (drop m s.bytes) (states.stays s) (states.atom s k m h lists)
 word_comes n s k m (o ∷ os) rest h le lists =
-    let t : State = record { opens = s.opens; items = s.items ++ word_of s k m ∷ []; in_comment = false; place = behind s.place (take m s.bytes); bytes = drop m s.bytes } in
+    let t : TextState = record { opens = s.opens; items = s.items ++ atom_in s k m ∷ []; in_comment = false; place = behind s.place (take m s.bytes); bytes = drop m s.bytes } in
     comes_behind s t (states.atom s t k m o os h lists refl) (rest t (omega (arith, length-drop m s.bytes, h.some, le)))
 
-scanned_comes : (n : ℕ) (s : State) (w : Word) → Rest n → HasAtom s w → Within 1 (length (drop 1 s.bytes)) w → length s.bytes ≤ suc n → Comes s
+scanned_comes : (n : ℕ) (s : TextState) (w : Word) → Rest n → HasAtom s w → Within 1 (length (drop 1 s.bytes)) w → length s.bytes ≤ suc n → Comes s
 scanned_comes n s (whole k m) rest h within le =
     word_comes n s k m s.opens rest (record { atom = h; some = omega (arith, within.0); within = omega (arith, within.1, length-drop 1 s.bytes, h.some) }) le refl
 scanned_comes n s (bad m) rest h within le = fault s s (behind s.place (take m s.bytes)) BadCharacter (states.stays s) (states.byte s m h)
 scanned_comes n s (cut r) rest h within le = fault s s s.place r (states.stays s) (states.end s r h)
 
-atom_comes : (n : ℕ) (s : State) (b : ℕ) (bs : List ℕ) (q : Part) → Rest n → s.in_comment ≡ false → s.bytes ≡ b ∷ bs → length s.bytes ≤ suc n → begins_part b ≡ Some q → Comes s
+atom_comes : (n : ℕ) (s : TextState) (b : ℕ) (bs : List ℕ) (q : Part) → Rest n → s.in_comment ≡ false → s.bytes ≡ b ∷ bs → length s.bytes ≤ suc n → begins_part b ≡ Some q → Comes s
 atom_comes n s b bs q rest plain at le begins =
     let w = scan q 1 (drop 1 s.bytes) in
     scanned_comes n s w rest (record { between = plain; part = q; begins = ap (λ l. begins_part (get_or l 0 0)) at ∙ begins; comes = refl; some = omega (arith, ap length at) }) (scan_within (drop 1 s.bytes) q 1) le
 
-class_comes : (k : Class) (n : ℕ) (s : State) (b : ℕ) (bs : List ℕ) → Rest n → s.in_comment ≡ false → s.bytes ≡ b ∷ bs → length s.bytes ≤ suc n → class b ≡ k → IsOf k b → Comes s
+class_comes : (k : Class) (n : ℕ) (s : TextState) (b : ℕ) (bs : List ℕ) → Rest n → s.in_comment ≡ false → s.bytes ≡ b ∷ bs → length s.bytes ≤ suc n → class b ≡ k → IsOf k b → Comes s
 class_comes Blank n s b bs rest plain at le is of = gap_comes n s b bs false rest at le (subst (λ c. Passes c (b ∷ []) false) (sym plain) (gaps.blank b [] false of (gaps.none false)))
 class_comes LineFeed n s b bs rest plain at le is of = gap_comes n s b bs false rest at le (subst (λ c. Passes c (b ∷ []) false) (sym plain) (gaps.blank b [] false of (gaps.none false)))
 class_comes Semicolon n s b bs rest plain at le is of =
@@ -138,27 +138,27 @@ class_comes Hash n s b bs rest plain at le is of = atom_comes n s b bs part.Hash
 class_comes Quote n s b bs rest plain at le is of = atom_comes n s b bs part.Inside rest plain at le (ap begins_class is)
 class_comes Bar n s b bs rest plain at le is of = atom_comes n s b bs part.Bars rest plain at le (ap begins_class is)
 
-commented : (t : Bool) (n : ℕ) (s : State) (b : ℕ) (bs : List ℕ) → Rest n → s.in_comment ≡ true → s.bytes ≡ b ∷ bs → length s.bytes ≤ suc n → ends_comment b ≡ t → Comes s
+commented : (t : Bool) (n : ℕ) (s : TextState) (b : ℕ) (bs : List ℕ) → Rest n → s.in_comment ≡ true → s.bytes ≡ b ∷ bs → length s.bytes ≤ suc n → ends_comment b ≡ t → Comes s
 commented true n s b bs rest c at le e = gap_comes n s b bs false rest at le (subst (λ x. Passes x (b ∷ []) false) (sym c) (gaps.ends b [] false e (gaps.none false)))
 commented false n s b bs rest c at le e = gap_comes n s b bs true rest at le (subst (λ x. Passes x (b ∷ []) true) (sym c) (gaps.text b [] true e (gaps.none true)))
 
-byte_comes : (c : Bool) (n : ℕ) (s : State) (b : ℕ) (bs : List ℕ) → Rest n → s.in_comment ≡ c → s.bytes ≡ b ∷ bs → length s.bytes ≤ suc n → Comes s
+byte_comes : (c : Bool) (n : ℕ) (s : TextState) (b : ℕ) (bs : List ℕ) → Rest n → s.in_comment ≡ c → s.bytes ≡ b ∷ bs → length s.bytes ≤ suc n → Comes s
 byte_comes true n s b bs rest c at le = commented (ends_comment b) n s b bs rest c at le refl
 byte_comes false n s b bs rest c at le = class_comes (class b) n s b bs rest c at le refl (class_tests b)
 
-end_comes : (os : List Opened) (s : State) → s.bytes ≡ [] → s.opens ≡ os → Comes s
+end_comes : (os : List Opened) (s : TextState) → s.bytes ≡ [] → s.opens ≡ os → Comes s
 end_comes [] s none lists = end s s (states.stays s) none lists
 end_comes (o ∷ os) s none lists = fault s s (outermost s.opens s.place) Unbalanced (states.stays s) (states.ended s none (omega (arith, ap length lists)))
 
-bytes_come : (bs : List ℕ) (n : ℕ) (s : State) → Rest n → s.bytes ≡ bs → length s.bytes ≤ suc n → Comes s
+bytes_come : (bs : List ℕ) (n : ℕ) (s : TextState) → Rest n → s.bytes ≡ bs → length s.bytes ≤ suc n → Comes s
 bytes_come [] n s rest at le = end_comes s.opens s at refl
 bytes_come (b ∷ bs) n s rest at le = byte_comes s.in_comment n s b bs rest refl at le
 
-nothing_comes : (bs : List ℕ) (s : State) → s.bytes ≡ bs → length s.bytes ≤ 0 → Comes s
+nothing_comes : (bs : List ℕ) (s : TextState) → s.bytes ≡ bs → length s.bytes ≤ 0 → Comes s
 nothing_comes [] s at le = end_comes s.opens s at refl
 nothing_comes (b ∷ bs) s at le = absurd (omega (arith, ap length at, le))
 
-pub all_come : (n : ℕ) (s : State) → length s.bytes ≤ n → Comes s
+pub all_come : (n : ℕ) (s : TextState) → length s.bytes ≤ n → Comes s
 all_come zero s le = nothing_comes s.bytes s refl le
 all_come (suc n) s le = bytes_come s.bytes n s (all_come n) refl le
 

@@ -10,14 +10,14 @@ use Rattle.rare_sexpr.specs.declared.parser.Read.{Read}
 use Rattle.rare_sexpr.specs.declared.reader.Refused.{Refused}
 use Rattle.rare_sexpr.specs.declared.reader.Reader.TheInside.{Inside}
 use Rattle.rare_sexpr.specs.Bytes.{behind}
-use Rattle.rare_sexpr.specs.Commands.{put_first, head_of}
+use Rattle.rare_sexpr.specs.Commands.{put_first, first_command}
 use Rattle.rare_sexpr.specs.Streams.{Stream, unless_refused, commands_left}
 use Rattle.rare_sexpr.specs.Answered.{IsTaken, IsFirst, IsWaiting, IsFinished, IsRefused, IsUndecided}
 use Rattle.rare_sexpr.specs.inner.Reading.{reading_from, ended}
 use Rattle.rare_sexpr.specs.inner.Stacks.{empty_stack}
 use Rattle.rare_sexpr.specs.inner.States.{left, Reads, stays}
-use Rattle.rare_sexpr.specs.inner.Parsing.{new_parser, is_comment, is_outermost, FitsMode, AreItems, state_of, state_at, IsParsing, HasPassed, HasCommand, IsFaulty, Waits, IsFinished as IsAtLast, IsRead}
-use Rattle.rare_sexpr.specs.inner.Kept.{refusal_of, stream_of, begin_at, IsKept}
+use Rattle.rare_sexpr.specs.inner.Parsing.{new_parser, is_comment, is_outermost, FitsMode, AreItems, text_state, state_at, IsParsing, HasPassed, HasCommand, IsFaulty, Waits, IsAtLast, IsRead}
+use Rattle.rare_sexpr.specs.inner.Kept.{refusal_of, stream_of, begin_at, ReaderInvariant}
 use Rattle.rare_sexpr.proofs.Lists.{append_none}
 use Rattle.rare_sexpr.proofs.Moves.{no_items}
 use Rattle.rare_sexpr.proofs.Turns.{reads_more}
@@ -35,22 +35,22 @@ pub different : true ≡ false → ⊥
 different e = cc
 
 -- what the parser needs of a reader
-pub kept_parsing : (r : Inside) → IsKept r → IsParsing r.bytes.items r.parser
+pub kept_parsing : (r : Inside) → ReaderInvariant r → IsParsing r.bytes.items r.parser
 kept_parsing r i = record { within = i.at; line = omega (arith, i.parser_line, i.fed); column = omega (arith, i.parser_column, i.fed); mode = i.mode; items = i.items }
 
 -- a parser that begins at the bytes not yet taken
 pub kept_anew : (r : Inside) (start : ℕ) (place : Place) → start ≤ length r.bytes.items → r.fed ≤ 2 ^ 32 - 2 → place.line + length r.bytes.items ≤ r.fed + 1 + start → place.column + length r.bytes.items ≤ r.fed + 1 + start →
-    IsKept (record r { start = start; place = place; parser = new_parser start place })
+    ReaderInvariant (record r { start = start; place = place; parser = new_parser start place })
 kept_anew r start place within fed line column =
     record { start = omega arith; at = within; fed = fed; line = line; column = column; parser_line = line; parser_column = column; mode = tt; items = refl; reads = λ more. stays (begin_at place (drop start r.bytes.items ++ more)) }
 
-pub kept_again : (r : Inside) → IsKept r → IsKept (record r { parser = new_parser r.start r.place })
+pub kept_again : (r : Inside) → ReaderInvariant r → ReaderInvariant (record r { parser = new_parser r.start r.place })
 kept_again r i = kept_anew r r.start r.place (omega (arith, i.start, i.at)) i.fed i.line i.column
 
-pub kept_refused : (r : Inside) (refusal : Option Refused) → IsKept r → IsKept (record r { parser = new_parser r.start r.place; refusal = refusal })
+pub kept_refused : (r : Inside) (refusal : Option Refused) → ReaderInvariant r → ReaderInvariant (record r { parser = new_parser r.start r.place; refusal = refusal })
 kept_refused r refusal i = kept_anew (record r { refusal = refusal }) r.start r.place (omega (arith, i.start, i.at)) i.fed i.line i.column
 
-same_state : (p : Parser) (bytes : List ℕ) → p.stack ≡ empty_stack → is_comment p.mode ≡ false → begin_at p.place bytes ≡ state_of p bytes
+same_state : (p : Parser) (bytes : List ℕ) → p.stack ≡ empty_stack → is_comment p.mode ≡ false → begin_at p.place bytes ≡ text_state p bytes
 same_state p bytes empty plain =
     ap (λ s. record { opens = reverse s.opened; items = s.items; in_comment = false; place = p.place; bytes = bytes }) (sym empty)
     ∙ ap (λ c. record { opens = reverse p.stack.opened; items = p.stack.items; in_comment = c; place = p.place; bytes = bytes }) (sym plain)
@@ -62,7 +62,7 @@ empty_items s e = subst (λ x. AreItems (reverse x.opened) x.items) (sym e) refl
 abbrev pub moved : Inside → Parser → Inside
 moved r p = record r { start = p.at; place = p.place; parser = p }
 
-kept_moved : (r : Inside) (new : Parser) → IsKept r → HasPassed r.bytes.items r.parser new → FitsMode (drop new.at r.bytes.items) new.mode → new.stack ≡ empty_stack → is_comment new.mode ≡ false → IsKept (moved r new)
+kept_moved : (r : Inside) (new : Parser) → ReaderInvariant r → HasPassed r.bytes.items r.parser new → FitsMode (drop new.at r.bytes.items) new.mode → new.stack ≡ empty_stack → is_comment new.mode ≡ false → ReaderInvariant (moved r new)
 kept_moved r new i h fits empty plain =
     let line : new.place.line + length r.bytes.items ≤ r.fed + 1 + new.at = omega (arith, i.parser_line, h.line, h.begin) in
     let column : new.place.column + length r.bytes.items ≤ r.fed + 1 + new.at = omega (arith, i.parser_column, h.column, h.begin) in
@@ -79,7 +79,7 @@ kept_moved r new i h fits empty plain =
       reads = λ more. let s = begin_at new.place (drop new.at r.bytes.items ++ more) in subst (λ t. Reads s t) (same_state new (drop new.at r.bytes.items ++ more) empty plain) (stays s);
     }
 
-pub kept_command : (r : Inside) (e : Sexpr) (new : Parser) → IsKept r → HasCommand r.bytes.items r.ended r.parser e new → IsKept (moved r new)
+pub kept_command : (r : Inside) (e : Sexpr) (new : Parser) → ReaderInvariant r → HasCommand r.bytes.items r.ended r.parser e new → ReaderInvariant (moved r new)
 kept_command r e new i h = kept_moved r new i h.passed (subst (λ m. FitsMode (drop new.at r.bytes.items) m) (sym h.between) tt) h.empty (ap is_comment h.between)
 
 -- of two tests that hold
@@ -104,13 +104,13 @@ outermost_stack new items is =
 outermost_plain : (new : Parser) → is_outermost new ≡ true → is_comment new.mode ≡ false
 outermost_plain new is = not_true (is_comment new.mode) (both_second (length new.stack.opened == 0) (not (is_comment new.mode)) is)
 
-pub kept_outermost : (r : Inside) (new : Parser) → IsKept r → Waits r.bytes.items r.ended r.parser new → is_outermost new ≡ true → IsKept (moved r new)
+pub kept_outermost : (r : Inside) (new : Parser) → ReaderInvariant r → Waits r.bytes.items r.ended r.parser new → is_outermost new ≡ true → ReaderInvariant (moved r new)
 kept_outermost r new i h is = kept_moved r new i h.gone.passed h.gone.parsing.mode (outermost_stack new h.gone.parsing.items is) (outermost_plain new is)
 
 untold : (told : Bool) (more : List ℕ) → told ≡ false → told ≡ true → more ≡ []
 untold told more e t = absurd (different (sym t ∙ e))
 
-pub kept_inside : (r : Inside) (new : Parser) → IsKept r → Waits r.bytes.items r.ended r.parser new → IsKept (record r { parser = new })
+pub kept_inside : (r : Inside) (new : Parser) → ReaderInvariant r → Waits r.bytes.items r.ended r.parser new → ReaderInvariant (record r { parser = new })
 kept_inside r new i h =
     let p = h.gone.passed in
     record {
@@ -126,13 +126,13 @@ kept_inside r new i h =
       reads = λ more. reads_more (begin_at r.place (drop r.start r.bytes.items ++ more)) (state_at r.parser r.bytes.items more) (state_at new r.bytes.items more) (i.reads more) (h.gone.reads more (untold r.ended more h.untold));
     }
 
-pub kept_finished : (r : Inside) (new : Parser) → IsKept r → IsAtLast r.bytes.items r.ended r.parser new → IsKept (record r { start = new.at; place = new.place; parser = new_parser new.at new.place })
+pub kept_finished : (r : Inside) (new : Parser) → ReaderInvariant r → IsAtLast r.bytes.items r.ended r.parser new → ReaderInvariant (record r { start = new.at; place = new.place; parser = new_parser new.at new.place })
 kept_finished r new i h =
     let p = h.gone.passed in
     kept_anew r new.at new.place p.within i.fed (omega (arith, i.parser_line, p.line, p.begin)) (omega (arith, i.parser_column, p.column, p.begin))
 
 -- the commands left are those that are left to the parser
-left_at : (r : Inside) (old : Stream) → IsKept r → r.refusal ≡ None → stream_of r ≡ old → (more : List ℕ) → commands_left old more ≡ left (state_at r.parser r.bytes.items more)
+left_at : (r : Inside) (old : Stream) → ReaderInvariant r → r.refusal ≡ None → stream_of r ≡ old → (more : List ℕ) → commands_left old more ≡ left (state_at r.parser r.bytes.items more)
 left_at r old i none is more =
     ap (λ s. commands_left s more) (sym is)
     ∙ ap (λ o. unless_refused (option_map refusal_of o) r.place (drop r.start r.bytes.items ++ more)) none
@@ -142,7 +142,7 @@ told_too : (r : Inside) (old : Stream) (more : List ℕ) → stream_of r ≡ old
 told_too r old more is none t = none (sym (ap (λ s. s.ended) is) ∙ t)
 
 -- what was taken
-taken_to : (r : Inside) (old : Stream) (new : Inside) (at : ℕ) (place : Place) → IsKept r → stream_of r ≡ old → r.start ≤ at → at ≤ length r.bytes.items →
+taken_to : (r : Inside) (old : Stream) (new : Inside) (at : ℕ) (place : Place) → ReaderInvariant r → stream_of r ≡ old → r.start ≤ at → at ≤ length r.bytes.items →
     Leads r.place (drop r.start r.bytes.items ++ []) place (drop at r.bytes.items ++ []) → new ≡ record r { start = at; place = place; parser = new.parser } → IsTaken old (between r.bytes.items r.start at) (stream_of new)
 taken_to r old new at place i is le within leads to =
     let items = r.bytes.items in
@@ -158,7 +158,7 @@ pub read_as : (r : Inside) (bytes : List ℕ) (f g : Read) (new : Parser) → by
 read_as r bytes f g new whole is h = subst (λ xs. IsRead xs r.ended r.parser g new) whole (subst (λ x. IsRead bytes r.ended r.parser x new) is h)
 
 -- a command
-pub first_read : (r : Inside) (old : Stream) (e : Sexpr) (new : Parser) → IsKept r → r.refusal ≡ None → stream_of r ≡ old → HasCommand r.bytes.items r.ended r.parser e new → IsFirst old e (stream_of (moved r new))
+pub first_read : (r : Inside) (old : Stream) (e : Sexpr) (new : Parser) → ReaderInvariant r → r.refusal ≡ None → stream_of r ≡ old → HasCommand r.bytes.items r.ended r.parser e new → IsFirst old e (stream_of (moved r new))
 first_read r old e new i none is h =
     let items = r.bytes.items in
     let some : r.start < new.at = omega (arith, i.start, h.further) in
@@ -195,7 +195,7 @@ first_read r old e new i none is h =
     }
 
 -- more is wanted
-pub waits_outside : (r : Inside) (old : Stream) (new : Parser) → IsKept r → r.refusal ≡ None → stream_of r ≡ old → Waits r.bytes.items r.ended r.parser new → is_outermost new ≡ true → IsWaiting old (stream_of (moved r new))
+pub waits_outside : (r : Inside) (old : Stream) (new : Parser) → ReaderInvariant r → r.refusal ≡ None → stream_of r ≡ old → Waits r.bytes.items r.ended r.parser new → is_outermost new ≡ true → IsWaiting old (stream_of (moved r new))
 waits_outside r old new i none is h out =
     let items = r.bytes.items in
     let p = h.gone.passed in
@@ -230,7 +230,7 @@ waits_inside r old new is h = record {
   kept = (ap (λ s. s.fed) is, ap (λ s. s.ended) is, ap (λ s. s.refusal) is, omega (arith, ap (λ s. length s.rest) is));
 }
 
-pub undecided_waits : (r : Inside) (old : Stream) (new : Parser) → IsKept r → r.refusal ≡ None → stream_of r ≡ old → Waits r.bytes.items r.ended r.parser new → IsUndecided old
+pub undecided_waits : (r : Inside) (old : Stream) (new : Parser) → ReaderInvariant r → r.refusal ≡ None → stream_of r ≡ old → Waits r.bytes.items r.ended r.parser new → IsUndecided old
 undecided_waits r old new i none is h =
     let items = r.bytes.items in
     let rest = drop new.at items in
@@ -239,12 +239,12 @@ undecided_waits r old new i none is h =
     let b = bare (reverse new.stack.opened) new.stack.items new.mode new.place rest h.gone.parsing.mode h.end in
     record {
       «open» = ap (λ s. s.ended) (sym is) ∙ h.untold;
-      begun = (m.0, m.1.0, ap head_of (same m.0) ∙ m.1.1);
-      unfinished = (b.0, ap head_of (same b.0) ∙ b.1);
+      begun = (m.0, m.1.0, ap first_command (same m.0) ∙ m.1.1);
+      unfinished = (b.0, ap first_command (same b.0) ∙ b.1);
     }
 
 -- the end
-pub finished_read : (r : Inside) (old : Stream) (new : Parser) → IsKept r → r.refusal ≡ None → stream_of r ≡ old → IsAtLast r.bytes.items r.ended r.parser new →
+pub finished_read : (r : Inside) (old : Stream) (new : Parser) → ReaderInvariant r → r.refusal ≡ None → stream_of r ≡ old → IsAtLast r.bytes.items r.ended r.parser new →
     IsFinished old (stream_of (record r { start = new.at; place = new.place; parser = new_parser new.at new.place }))
 finished_read r old new i none is h =
     let items = r.bytes.items in
@@ -270,7 +270,7 @@ finished_read r old new i none is h =
     }
 
 -- a fault
-pub refused_read : (r : Inside) (old : Stream) (p : Place) (reason : Reason) → IsKept r → r.refusal ≡ None → stream_of r ≡ old → IsFaulty r.bytes.items r.ended r.parser p reason →
+pub refused_read : (r : Inside) (old : Stream) (p : Place) (reason : Reason) → ReaderInvariant r → r.refusal ≡ None → stream_of r ≡ old → IsFaulty r.bytes.items r.ended r.parser p reason →
     IsRefused old p reason (stream_of (record r { parser = new_parser r.start r.place; refusal = Some (record { place = p; reason = reason }) }))
 refused_read r old p reason i none is h = record {
   fault = λ fresh more none'.
@@ -289,19 +289,19 @@ refused_read r old p reason i none is h = record {
 pub first_decided : (old : Stream) (e : Sexpr) (new : Stream) → IsFirst old e new → ¬ (IsUndecided old)
 first_decided old e new h u =
     let told = λ (t : old.ended ≡ true). absurd {A = u.unfinished.0 ≡ []} (different (sym t ∙ u.open)) in
-    let is = sym u.unfinished.1 ∙ ap head_of (h.rest u.unfinished.0 told) in
+    let is = sym u.unfinished.1 ∙ ap first_command (h.rest u.unfinished.0 told) in
     cc
 
 pub refused_decided : (old : Stream) (place : Place) (reason : Reason) (new : Stream) → IsRefused old place reason new → ¬ (IsUndecided old)
 refused_decided old place reason new h u =
     let told = λ (t : old.ended ≡ true). absurd {A = u.begun.0 ≡ []} (different (sym t ∙ u.open)) in
-    let is = sym u.begun.2 ∙ ap head_of (h.rest u.begun.0 told) in
+    let is = sym u.begun.2 ∙ ap first_command (h.rest u.begun.0 told) in
     cc
 
 -- a reader that was fed nothing
-pub kept_first : (r : Inside) → r.bytes.items ≡ [] → r.start ≡ 0 → r.place ≡ record { line = 1; column = 1 } → r.parser ≡ new_parser r.start r.place → r.fed ≡ 0 → IsKept r
+pub kept_first : (r : Inside) → r.bytes.items ≡ [] → r.start ≡ 0 → r.place ≡ record { line = 1; column = 1 } → r.parser ≡ new_parser r.start r.place → r.fed ≡ 0 → ReaderInvariant r
 kept_first r none start place parser fed =
     let line : r.place.line ≡ 1 = ap (λ p. p.line) place in
     let column : r.place.column ≡ 1 = ap (λ p. p.column) place in
     let n : length r.bytes.items ≡ 0 = ap length none in
-    subst (λ p. IsKept (record r { parser = p })) (sym parser) (kept_anew r r.start r.place (omega (arith, start)) (omega (arith, fed)) (omega (arith, line, n)) (omega (arith, column, n)))
+    subst (λ p. ReaderInvariant (record r { parser = p })) (sym parser) (kept_anew r r.start r.place (omega (arith, start)) (omega (arith, fed)) (omega (arith, line, n)) (omega (arith, column, n)))

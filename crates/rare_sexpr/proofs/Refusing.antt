@@ -11,12 +11,12 @@ use Rattle.rare_sexpr.specs.Bytes.{behind, is_symbol_byte, ends_atom}
 use Rattle.rare_sexpr.specs.Grammar.{IsGap, IsLastGap, Are, Bare, Spell}
 use Rattle.rare_sexpr.specs.Grammar as grammar
 use Rattle.rare_sexpr.specs.Limits.{most_nested_lists}
-use Rattle.rare_sexpr.specs.Faults.{BeginsBare, IsBadWord, Fails, IsFault}
+use Rattle.rare_sexpr.specs.Faults.{BeginsBare, IsBadWord, HasFaultIn, IsFault}
 use Rattle.rare_sexpr.specs.Faults as faults
 use Rattle.rare_sexpr.specs.inner.Classes.{class}
 use Rattle.rare_sexpr.specs.inner.Scan.{bad, cut, begins_class}
 use Rattle.rare_sexpr.specs.inner.Reading.{outermost}
-use Rattle.rare_sexpr.specs.inner.States.{State, Refuses}
+use Rattle.rare_sexpr.specs.inner.States.{TextState, Refuses}
 use Rattle.rare_sexpr.specs.inner.States as states
 use Rattle.rare_sexpr.specs.inner.Gaps as gaps
 use Rattle.rare_sexpr.specs.inner.Built.{outside, Built}
@@ -71,7 +71,7 @@ first_place [] p some = absurd (omega (arith, some))
 first_place (o ∷ []) p some = (o.place, [], refl, refl)
 first_place (o ∷ x ∷ os) p some = let h = first_place (x ∷ os) o.place (omega arith) in (h.0, h.1 ++ o.place ∷ [], ap (λ l. l ++ o.place ∷ []) h.2, h.3)
 
-pub built_refuses : (p : Place) (bytes : List ℕ) (s : State) (q : Place) (r : Reason) → Built p bytes s → Refuses s q r → IsFault p bytes (record { place = q; reason = r })
+pub built_refuses : (p : Place) (bytes : List ℕ) (s : TextState) (q : Place) (r : Reason) → Built p bytes s → Refuses s q r → IsFault p bytes (record { place = q; reason = r })
 built_refuses p bytes s q r h (states.closed _ b rest plain at is lists) =
     let g = whole_gap h.passed s.in_comment plain h.passes in
     let i = inside_none p bytes h.nesting s.opens s.items h.place (h.passed ++ s.bytes) h.inside lists in
@@ -84,9 +84,9 @@ built_refuses p bytes s q r h (states.ended _ none some) =
     let rest : h.passed ++ s.bytes ≡ h.passed = ap (λ x. h.passed ++ x) none ∙ no_more h.passed in
     fails_out p bytes h.nesting s.opens s.items h.place (h.passed ++ s.bytes) (record { place = outermost s.opens s.place; reason = Unbalanced }) h.inside
     (λ es a front may spelled is.
-    subst (λ x. Fails h.nesting x a (front ++ (h.passed ++ s.bytes)) (record { place = outermost s.opens s.place; reason = Unbalanced })) (sym f.2)
-    (subst (λ x. Fails h.nesting (f.0 ∷ f.1) a (front ++ (h.passed ++ s.bytes)) (record { place = x; reason = Unbalanced })) (sym f.3)
-    (subst (λ x. Fails h.nesting (f.0 ∷ f.1) a (front ++ x) (record { place = f.0; reason = Unbalanced })) (sym rest)
+    subst (λ x. HasFaultIn h.nesting x a (front ++ (h.passed ++ s.bytes)) (record { place = outermost s.opens s.place; reason = Unbalanced })) (sym f.2)
+    (subst (λ x. HasFaultIn h.nesting (f.0 ∷ f.1) a (front ++ (h.passed ++ s.bytes)) (record { place = x; reason = Unbalanced })) (sym f.3)
+    (subst (λ x. HasFaultIn h.nesting (f.0 ∷ f.1) a (front ++ x) (record { place = f.0; reason = Unbalanced })) (sym rest)
     (faults.ended h.nesting es f.0 f.1 a front h.passed (subst (λ x. Spell h.nesting es a front x) rest spelled) (last_gap h.passed s.in_comment h.passes)))))
 built_refuses p bytes s q r h (states.deep _ b rest plain at is many) =
     let g = whole_gap h.passed s.in_comment plain h.passes in
@@ -95,9 +95,9 @@ built_refuses p bytes s q r h (states.deep _ b rest plain at is many) =
     fails_out p bytes h.nesting s.opens s.items h.place (h.passed ++ s.bytes) (record { place = s.place; reason = TooDeep }) h.inside
     (λ es a front may spelled is'.
     let place : s.place ≡ behind a (front ++ h.passed) = h.behind_gap ∙ ap (λ x. behind x h.passed) is' ∙ sym (behind_append a front h.passed) in
-    subst (λ x. Fails x (places s.opens) a (front ++ (h.passed ++ s.bytes)) (record { place = s.place; reason = TooDeep })) (sym none)
-    (subst (λ x. Fails 0 (places s.opens) a (front ++ (h.passed ++ s.bytes)) (record { place = x; reason = TooDeep })) (sym place)
-    (subst (λ x. Fails 0 (places s.opens) a (front ++ (h.passed ++ x)) (record { place = behind a (front ++ h.passed); reason = TooDeep })) (sym e)
+    subst (λ x. HasFaultIn x (places s.opens) a (front ++ (h.passed ++ s.bytes)) (record { place = s.place; reason = TooDeep })) (sym none)
+    (subst (λ x. HasFaultIn 0 (places s.opens) a (front ++ (h.passed ++ s.bytes)) (record { place = x; reason = TooDeep })) (sym place)
+    (subst (λ x. HasFaultIn 0 (places s.opens) a (front ++ (h.passed ++ x)) (record { place = behind a (front ++ h.passed); reason = TooDeep })) (sym e)
     (faults.deep es (places s.opens) a front h.passed rest may (subst (λ x. Spell 0 es a front (h.passed ++ x)) e (subst (λ x. Spell x es a front (h.passed ++ s.bytes)) none spelled)) g))))
 built_refuses p bytes s q r h (states.no_word _ b rest plain at is) =
     word_fault p bytes s 0 s.place BadCharacter h plain (omega arith) (subst (λ x. IsBadWord x 0 BadCharacter) (sym at) (no_word b rest is)) refl

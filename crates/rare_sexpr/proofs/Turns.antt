@@ -18,12 +18,12 @@ use Rattle.rare_sexpr.specs.inner.Wording.{IsWord, Resumes}
 use Rattle.rare_sexpr.specs.declared.gaps.Gap.{Gap}
 use Rattle.rare_sexpr.specs.inner.Words.{gap_step}
 use Rattle.rare_sexpr.specs.inner.Gaps.{Passes, IsGapEnd}
-use Rattle.rare_sexpr.specs.inner.States.{State, Takes, Reads, stays, goes, Gives, Refuses}
+use Rattle.rare_sexpr.specs.inner.States.{TextState, Takes, Reads, stays, goes, GivesCommand, Refuses}
 use Rattle.rare_sexpr.specs.inner.States as states
 use Rattle.rare_sexpr.specs.inner.Parsing.{is_comment, behind_gap, state_at, FitsMode, AreItems, IsParsing, HasPassed, IsSkipped, HasGone, HasCommand, IsFaulty, IsAtEnd, Waits, IsTurn, IsRead, IsEnd}
 use Rattle.rare_sexpr.proofs.Moves.{length_reverse, empty_of}
 
-pub reads_more : (s t u : State) → Reads s t → Reads t u → Reads s u
+pub reads_more : (s t u : TextState) → Reads s t → Reads t u → Reads s u
 reads_more s t u r (stays _) = r
 reads_more s t u r (goes _ v _ q k) = goes s v u (reads_more s t v r q) k
 

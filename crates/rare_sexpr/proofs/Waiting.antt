@@ -13,7 +13,7 @@ use Rattle.rare_sexpr.specs.declared.parser.Mode.{Mode}
 use Rattle.rare_sexpr.specs.declared.parser.Mode.TheVariants as mode
 use Rattle.rare_sexpr.specs.Tree.{atom_of, list_of}
 use Rattle.rare_sexpr.specs.Bytes.{after, behind}
-use Rattle.rare_sexpr.specs.Commands.{head_of}
+use Rattle.rare_sexpr.specs.Commands.{first_command}
 use Rattle.rare_sexpr.specs.inner.Scan.{Word, whole, bad, cut, scan, begins_part}
 use Rattle.rare_sexpr.specs.inner.Words.{atom, between, words, text_of_word, gap_mode}
 use Rattle.rare_sexpr.specs.inner.Wording.{Resumes}
@@ -29,7 +29,7 @@ closers (suc n) = 41 ∷ closers n
 
 -- a command comes first
 abbrev Makes : List Opened → List Sexpr → Bool → Place → List ℕ → Type 0
-Makes os items c p bytes = (e : Sexpr) × (head_of (commands os items (words (gap_mode c) p bytes)) ≡ Some e)
+Makes os items c p bytes = (e : Sexpr) × (first_command (commands os items (words (gap_mode c) p bytes)) ≡ Some e)
 
 closed_by : (n : ℕ) (o : Opened) (os : List Opened) (items : List Sexpr) (p : Place) → length os ≡ n → Makes (o ∷ os) items false p (closers (suc n))
 closed_by zero o [] items p is = (list_of o.place (drop o.before items), refl)
@@ -152,18 +152,18 @@ filled_words rest q p tail some h end =
 
 word_makes : (os : List Opened) (items : List Sexpr) (rest : List ℕ) (q : Part) (p : Place) → 0 < length rest → Resumes rest (length rest) q → (more : List ℕ) × Makes os items false p (rest ++ more)
 word_makes [] items rest q p some h =
-    (fill q ++ [], (atom_of p (made q) (text_of_word (made q) (rest ++ fill q)), ap (λ ts. head_of (commands [] items ts)) (filled_words rest q p [] some h nothing)))
+    (fill q ++ [], (atom_of p (made q) (text_of_word (made q) (rest ++ fill q)), ap (λ ts. first_command (commands [] items ts)) (filled_words rest q p [] some h nothing)))
 word_makes (o ∷ os) items rest q p some h =
     let e = atom_of p (made q) (text_of_word (made q) (rest ++ fill q)) in
     let tail = closers (suc (length os)) in
     let made_list = closed_by (length os) o os (items ++ e ∷ []) (behind p (rest ++ fill q)) refl in
-    (fill q ++ tail, (made_list.0, ap (λ ts. head_of (commands (o ∷ os) items ts)) (filled_words rest q p tail some h (close (closers (length os)))) ∙ made_list.1))
+    (fill q ++ tail, (made_list.0, ap (λ ts. first_command (commands (o ∷ os) items ts)) (filled_words rest q p tail some h (close (closers (length os)))) ∙ made_list.1))
 
 pub makes : (os : List Opened) (items : List Sexpr) (m : Mode) (p : Place) (rest : List ℕ) → FitsMode rest m → IsAtEnd rest m → (more : List ℕ) × Makes os items (is_comment m) p (rest ++ more)
-makes os items mode.Between p rest fits end = let h = between_makes os items p in (h.0, (h.1.0, ap (λ l. head_of (commands os items (words between p (l ++ h.0)))) end ∙ h.1.1))
+makes os items mode.Between p rest fits end = let h = between_makes os items p in (h.0, (h.1.0, ap (λ l. first_command (commands os items (words between p (l ++ h.0)))) end ∙ h.1.1))
 makes os items mode.Comment p rest fits end =
     let h = between_makes os items (after 10 p) in
-    (10 ∷ h.0, (h.1.0, ap (λ l. head_of (commands os items (words (gap_mode true) p (l ++ 10 ∷ h.0)))) end ∙ h.1.1))
+    (10 ∷ h.0, (h.1.0, ap (λ l. first_command (commands os items (words (gap_mode true) p (l ++ 10 ∷ h.0)))) end ∙ h.1.1))
 makes os items (mode.Word q n) p rest fits end = word_makes os items rest q p (omega (arith, fits.0, fits.1)) (subst (λ k. Resumes rest k q) end fits.2)
 
 -- bytes behind which it is no atom
@@ -204,18 +204,18 @@ spoiled part.Bars n = end _
 spoiled part.Inside n = end _
 
 spoiled_words : (os : List Opened) (items : List Sexpr) (bytes : List ℕ) (p : Place) (q : Part) (w : Word) → Spoils w → begins_part (get_or bytes 0 0) ≡ Some q → scan q 1 (drop 1 bytes) ≡ w → 0 < length bytes →
-    head_of (commands os items (words between p bytes)) ≡ None
-spoiled_words os items bytes p q w (byte n) e is some = ap (λ ts. head_of (commands os items ts)) (words_bad bytes p q n e is some)
-spoiled_words os items bytes p q w (end r) e is some = ap (λ ts. head_of (commands os items ts)) (words_cut bytes p q r e is some)
+    first_command (commands os items (words between p bytes)) ≡ None
+spoiled_words os items bytes p q w (byte n) e is some = ap (λ ts. first_command (commands os items ts)) (words_bad bytes p q n e is some)
+spoiled_words os items bytes p q w (end r) e is some = ap (λ ts. first_command (commands os items ts)) (words_cut bytes p q r e is some)
 
-between_bare : (os : List Opened) (items : List Sexpr) → head_of (commands os items []) ≡ None
+between_bare : (os : List Opened) (items : List Sexpr) → first_command (commands os items []) ≡ None
 between_bare [] items = refl
 between_bare (o ∷ os) items = refl
 
 pub bare : (os : List Opened) (items : List Sexpr) (m : Mode) (p : Place) (rest : List ℕ) → FitsMode rest m → IsAtEnd rest m →
-    (more : List ℕ) × (head_of (commands os items (words (gap_mode (is_comment m)) p (rest ++ more))) ≡ None)
-bare os items mode.Between p rest fits done = ([], ap (λ l. head_of (commands os items (words between p (l ++ [])))) done ∙ between_bare os items)
-bare os items mode.Comment p rest fits done = ([], ap (λ l. head_of (commands os items (words (gap_mode true) p (l ++ [])))) done ∙ between_bare os items)
+    (more : List ℕ) × (first_command (commands os items (words (gap_mode (is_comment m)) p (rest ++ more))) ≡ None)
+bare os items mode.Between p rest fits done = ([], ap (λ l. first_command (commands os items (words between p (l ++ [])))) done ∙ between_bare os items)
+bare os items mode.Comment p rest fits done = ([], ap (λ l. first_command (commands os items (words (gap_mode true) p (l ++ [])))) done ∙ between_bare os items)
 bare os items (mode.Word q n) p rest fits done =
     let some : 0 < length rest = omega (arith, fits.0, fits.1) in
     let h : Resumes rest (length rest) q = subst (λ k. Resumes rest k q) done fits.2 in (

@@ -11,7 +11,7 @@ use Rattle.rare_sexpr.specs.Tree.{depth}
 use Rattle.rare_sexpr.specs.Bytes.{behind}
 use Rattle.rare_sexpr.specs.Grammar.{IsGap, IsLastGap, Spells}
 use Rattle.rare_sexpr.specs.Faults.{IsFault}
-use Rattle.rare_sexpr.specs.Commands.{put_first, no_commands, refused, head_of}
+use Rattle.rare_sexpr.specs.Commands.{put_first, no_commands, refused, first_command}
 use Rattle.rare_sexpr.specs.Streams.{Stream, commands_left}
 
 -- these bytes were taken, and nothing else changed but the refusal
@@ -55,19 +55,19 @@ pub record IsRefused (old : Stream) (place : Place) (reason : Reason) (new : Str
   pub rest : (more : List ℕ) → (old.ended ≡ true → more ≡ []) → commands_left old more ≡ refused place reason
   pub stands : new ≡ record old { refusal = Some (record { place = place; reason = reason }) }
 
-abbrev pub IsNext : Stream → Result Next Fault → Stream → Type 0
-IsNext old (Ok (next.Command e)) new = IsFirst old e new
-IsNext old (Ok next.NeedMore) new = IsWaiting old new
-IsNext old (Ok next.Finished) new = IsFinished old new
-IsNext old (Err (fault.Refused place reason)) new = IsRefused old place reason new
-IsNext old (Err fault.Memory) new = new ≡ old
+abbrev pub AnswersNext : Stream → Result Next Fault → Stream → Type 0
+AnswersNext old (Ok (next.Command e)) new = IsFirst old e new
+AnswersNext old (Ok next.NeedMore) new = IsWaiting old new
+AnswersNext old (Ok next.Finished) new = IsFinished old new
+AnswersNext old (Err (fault.Refused place reason)) new = IsRefused old place reason new
+AnswersNext old (Err fault.Memory) new = new ≡ old
 
 -- The bytes left are blanks and comments alone, or these and the front of a command that is not whole:
 -- the text goes on, with some further bytes a command comes first, and with others none.
 pub record IsUndecided (s : Stream) : Type 0 where
   pub «open» : s.ended ≡ false
-  pub begun : (more : List ℕ) × (e : Sexpr) × (head_of (commands_left s more) ≡ Some e)
-  pub unfinished : (more : List ℕ) × (head_of (commands_left s more) ≡ None)
+  pub begun : (more : List ℕ) × (e : Sexpr) × (first_command (commands_left s more) ≡ Some e)
+  pub unfinished : (more : List ℕ) × (first_command (commands_left s more) ≡ None)
 
 -- more bytes are asked for exactly there, unless memory ran out
 abbrev pub AsksForMore : Stream → Result Next Fault → Type 0

@@ -13,8 +13,8 @@ pub record Commands : Type 0 where
 abbrev pub put_first : Sexpr → Commands → Commands
 put_first e c = record c { list = e ∷ c.list }
 
-abbrev pub head_of : Commands → Option Sexpr
-head_of c = slice_get c.list 0
+abbrev pub first_command : Commands → Option Sexpr
+first_command c = slice_get c.list 0
 
 abbrev pub no_commands : Commands
 no_commands = record { list = []; fault = None }

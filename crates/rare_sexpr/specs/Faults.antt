@@ -38,15 +38,15 @@ MayStandBefore es (q ∷ qs) = Unit {0}
 
 -- The first fault of a text that goes on at this place, in open lists at these places, the outermost
 -- first, where so many more may be opened.
-pub data Fails : ℕ → List Place → Place → List ℕ → Refusal → Type 0 where
-  closed : (d : ℕ) (p : Place) (gap rest : List ℕ) → IsGap gap → Fails d [] p (gap ++ 41 ∷ rest) (record { place = behind p gap; reason = Unbalanced })
-  ended : (d : ℕ) (es : List Sexpr) (q : Place) (qs : List Place) (p : Place) (front last : List ℕ) → Spell d es p front last → IsLastGap last → Fails d (q ∷ qs) p (front ++ last) (record { place = q; reason = Unbalanced })
-  deep : (es : List Sexpr) (qs : List Place) (p : Place) (front gap rest : List ℕ) → MayStandBefore es qs → Spell 0 es p front (gap ++ 40 ∷ rest) → IsGap gap → Fails 0 qs p (front ++ (gap ++ 40 ∷ rest)) (record { place = behind p (front ++ gap); reason = TooDeep })
+pub data HasFaultIn : ℕ → List Place → Place → List ℕ → Refusal → Type 0 where
+  closed : (d : ℕ) (p : Place) (gap rest : List ℕ) → IsGap gap → HasFaultIn d [] p (gap ++ 41 ∷ rest) (record { place = behind p gap; reason = Unbalanced })
+  ended : (d : ℕ) (es : List Sexpr) (q : Place) (qs : List Place) (p : Place) (front last : List ℕ) → Spell d es p front last → IsLastGap last → HasFaultIn d (q ∷ qs) p (front ++ last) (record { place = q; reason = Unbalanced })
+  deep : (es : List Sexpr) (qs : List Place) (p : Place) (front gap rest : List ℕ) → MayStandBefore es qs → Spell 0 es p front (gap ++ 40 ∷ rest) → IsGap gap → HasFaultIn 0 qs p (front ++ (gap ++ 40 ∷ rest)) (record { place = behind p (front ++ gap); reason = TooDeep })
   word : (d : ℕ) (es : List Sexpr) (qs : List Place) (p : Place) (front gap good bad : List ℕ) (reason : Reason) → MayStandBefore es qs → Spell d es p front (gap ++ (good ++ bad)) → IsGap gap → IsBadWord (good ++ bad) (length good) reason →
-      Fails d qs p (front ++ (gap ++ (good ++ bad))) (record { place = behind p (front ++ (gap ++ good)); reason = reason })
-  within : (d : ℕ) (es : List Sexpr) (qs : List Place) (p : Place) (front gap rest : List ℕ) (r : Refusal) → MayStandBefore es qs → Spell (suc d) es p front (gap ++ 40 ∷ rest) → IsGap gap → Fails d (qs ++ behind p (front ++ gap) ∷ []) (behind p (front ++ (gap ++ 40 ∷ []))) rest r →
-      Fails (suc d) qs p (front ++ (gap ++ 40 ∷ rest)) r
+      HasFaultIn d qs p (front ++ (gap ++ (good ++ bad))) (record { place = behind p (front ++ (gap ++ good)); reason = reason })
+  within : (d : ℕ) (es : List Sexpr) (qs : List Place) (p : Place) (front gap rest : List ℕ) (r : Refusal) → MayStandBefore es qs → Spell (suc d) es p front (gap ++ 40 ∷ rest) → IsGap gap → HasFaultIn d (qs ++ behind p (front ++ gap) ∷ []) (behind p (front ++ (gap ++ 40 ∷ []))) rest r →
+      HasFaultIn (suc d) qs p (front ++ (gap ++ 40 ∷ rest)) r
 
 -- these bytes, with no command before it, are a fault
 abbrev pub IsFault : Place → List ℕ → Refusal → Type 0
-IsFault p bytes r = Fails most_nested_lists [] p bytes r
+IsFault p bytes r = HasFaultIn most_nested_lists [] p bytes r

@@ -1,7 +1,7 @@
 //! The reader: commands of a text that is fed in pieces.
 ghost use Rattle.std.specs.Prelude.{◌≡◌, ◌++◌, ◌+◌, ◌-◌, ◌^◌, ◌≤◌, length, false, true, OnOk, OnErr};
 ghost use Rattle.rare_sexpr.specs.Streams.{new_stream};
-ghost use Rattle.rare_sexpr.specs.Answered.{IsNext, AsksForMore};
+ghost use Rattle.rare_sexpr.specs.Answered.{AnswersNext, AsksForMore};
 
 use crate::parser::{Parser, Read};
 use crate::tree::Sexpr;
@@ -54,11 +54,11 @@ impl Model for Reader {
 
     ghost Value = { Stream };
 
-    ghost use Rattle.rare_sexpr.specs.inner.Kept.{stream_of, IsKept};
+    ghost use Rattle.rare_sexpr.specs.inner.Kept.{stream_of, ReaderInvariant};
 
     ghost view = { stream_of };
 
-    ghost invariant = { IsKept };
+    ghost invariant = { ReaderInvariant };
 }
 
 const FIRST: Place = Place { line: 1, column: 1 };
@@ -126,7 +126,7 @@ impl Reader {
     /// was told. A refusal comes as soon as no further byte could undo it, and stands from then on.
     /// After want of memory the reader is as before.
     pub fn next_command(&mut self) -> Result<Next, Fault>
-        ensures next { IsNext self.old result self.new }
+        ensures next { AnswersNext self.old result self.new }
         ensures more { AsksForMore self.old result }
     {
         if let Some(Refused { place, reason }) = self.refusal {

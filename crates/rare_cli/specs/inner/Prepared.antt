@@ -9,10 +9,12 @@ use Rattle.rare_base.specs.declared.answers.Status.TheVariants as status
 use Rattle.rare_base.specs.Outside.{Rose}
 use Rattle.rare_base.specs.Reads.{most_file_bytes}
 use Rattle.rare_check.specs.declared.report.Report.{Report}
-use Rattle.rare_sort.specs.declared.tree.Tree.{Tree}
-use Rattle.rare_check.specs.declared.problem.Problem.{Problem}
-use Rattle.rare_check.specs.Stated.{stated}
-use Rattle.rare_check.specs.ProblemText.{StatedProblem, problem_of}
+use Rattle.rare_term.specs.State.{State}
+use Rattle.rare_text.specs.declared.problem.Problem.{Problem}
+use Rattle.rare_text.specs.ProblemText.{problem_of}
+use Rattle.rare_text.specs.Problems.{StatedProblem}
+use Rattle.rare_text.specs.Samples.{AreSamples}
+use Rattle.rare_text.specs.Stated.{stated_problem}
 use Rattle.rare_check.specs.Verdicts.{checked, ValidAreTrue}
 use Rattle.rare_cli.specs.WordForms.{Names}
 use Rattle.rare_cli.specs.Outcomes.{Outcome, stop_outcome, report_outcome}
@@ -58,15 +60,16 @@ IsTextOf files name file (Err (TooLong other)) = (other ≡ file) × IsQuiet fil
 IsTextOf files name file (Err (Refused other place reason)) = ⊥
 IsTextOf files name file (Err Memory) = Unit {0}
 
--- the problem of a file, by the trees of its terms, or why there is none
-abbrev pub IsProblemOf : Files → List ℕ → List Tree → Result Problem Stop → Type 0
-IsProblemOf files name ts (Ok p) = IsQuiet files × ReadsAs (files.told name) problem_of (Ok (stated ts p))
-IsProblemOf files name ts (Err BadWords) = ⊥
-IsProblemOf files name ts (Err (ReadFault other)) = (other ≡ file.Problem) × Rose (files.before name) (files.after name)
-IsProblemOf files name ts (Err (TooLong other)) = (other ≡ file.Problem) × IsQuiet files × IsLong (files.told name)
-IsProblemOf files name ts (Err (Refused other place reason)) =
+-- the problem of a file, by its terms, or why there is none
+abbrev pub IsProblemOf : Files → List ℕ → State → Result Problem Stop → Type 0
+IsProblemOf files name s (Ok p) =
+    IsQuiet files × ReadsAs (files.told name) problem_of (Ok (stated_problem s p)) × AreSamples s.declared p.samples
+IsProblemOf files name s (Err BadWords) = ⊥
+IsProblemOf files name s (Err (ReadFault other)) = (other ≡ file.Problem) × Rose (files.before name) (files.after name)
+IsProblemOf files name s (Err (TooLong other)) = (other ≡ file.Problem) × IsQuiet files × IsLong (files.told name)
+IsProblemOf files name s (Err (Refused other place reason)) =
     (other ≡ file.Problem) × IsQuiet files × ReadsAs (files.told name) problem_of (Err (record { place = place; reason = reason }))
-IsProblemOf files name ts (Err Memory) = Unit {0}
+IsProblemOf files name s (Err Memory) = Unit {0}
 
 -- the report on a proof of a problem, or why there is none
 abbrev pub IsReportOn : StatedProblem → List ℕ → Result Report Stop → Type 0

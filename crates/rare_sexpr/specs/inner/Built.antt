@@ -7,7 +7,7 @@ use Rattle.rare_sexpr.specs.Bytes.{behind}
 use Rattle.rare_sexpr.specs.Limits.{most_nested_lists}
 use Rattle.rare_sexpr.specs.Grammar.{IsGap, Spell}
 use Rattle.rare_sexpr.specs.inner.Gaps.{Passes}
-use Rattle.rare_sexpr.specs.inner.States.{State}
+use Rattle.rare_sexpr.specs.inner.States.{TextState}
 
 -- From a place and the bytes from there on to another: in these open lists, the innermost first, where so
 -- many more may be opened, these items were spelled.
@@ -18,7 +18,7 @@ pub data Inside (p : Place) (bytes : List ℕ) : ℕ → List Opened → List Se
       Inside p bytes d (record { place = behind q gap; before = length items } ∷ os) (items ++ own) (behind (behind q (gap ++ 40 ∷ [])) front) rest
 
 -- behind the last item a part of a gap was read
-pub record Built (p : Place) (bytes : List ℕ) (s : State) : Type 0 where
+pub record Built (p : Place) (bytes : List ℕ) (s : TextState) : Type 0 where
   pub nesting : ℕ
   pub place : Place
   pub passed : List ℕ

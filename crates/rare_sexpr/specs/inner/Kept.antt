@@ -6,7 +6,7 @@ use Rattle.rare_base.specs.Answers.{Refusal}
 use Rattle.rare_sexpr.specs.declared.reader.Refused.{Refused}
 use Rattle.rare_sexpr.specs.declared.reader.Reader.TheInside.{Inside}
 use Rattle.rare_sexpr.specs.Streams.{Stream}
-use Rattle.rare_sexpr.specs.inner.States.{State, Reads}
+use Rattle.rare_sexpr.specs.inner.States.{TextState, Reads}
 use Rattle.rare_sexpr.specs.inner.Parsing.{FitsMode, AreItems, state_at}
 
 abbrev pub refusal_of : Refused → Refusal
@@ -16,11 +16,11 @@ abbrev pub stream_of : Inside → Stream
 stream_of r = record { rest = drop r.start r.bytes.items; place = r.place; fed = r.fed; ended = r.ended; refusal = option_map refusal_of r.refusal }
 
 -- before the first byte of a command
-abbrev pub begin_at : Place → List ℕ → State
+abbrev pub begin_at : Place → List ℕ → TextState
 begin_at p bytes = record { opens = []; items = []; in_comment = false; place = p; bytes = bytes }
 
 -- the parser has read the bytes from start on
-pub record IsKept (r : Inside) : Type 0 where
+pub record ReaderInvariant (r : Inside) : Type 0 where
   pub start : r.start ≤ r.parser.at
   pub at : r.parser.at ≤ length r.bytes.items
   pub fed : r.fed ≤ 2 ^ 32 - 2

@@ -17,7 +17,7 @@ use Rattle.rare_sexpr.specs.inner.Words.{gap_step}
 use Rattle.rare_sexpr.specs.inner.Wording.{Resumes}
 use Rattle.rare_sexpr.specs.inner.Reading.{outermost}
 use Rattle.rare_sexpr.specs.inner.Stacks.{empty_stack}
-use Rattle.rare_sexpr.specs.inner.States.{State, Takes, Reads, Gives, Refuses}
+use Rattle.rare_sexpr.specs.inner.States.{TextState, Takes, Reads, GivesCommand, Refuses}
 
 abbrev pub new_parser : ℕ → Place → Parser
 new_parser n p = record { at = n; place = p; mode = mode.Between; stack = empty_stack }
@@ -36,12 +36,12 @@ abbrev pub passed_byte : List ℕ → Parser → Parser
 passed_byte bytes r = record r { at = r.at + 1; place = after (get_or bytes r.at 0) r.place; mode = mode.Between }
 
 -- what was read, before these bytes
-abbrev pub state_of : Parser → List ℕ → State
-state_of r rest = record { opens = reverse r.stack.opened; items = r.stack.items; in_comment = is_comment r.mode; place = r.place; bytes = rest }
+abbrev pub text_state : Parser → List ℕ → TextState
+text_state r rest = record { opens = reverse r.stack.opened; items = r.stack.items; in_comment = is_comment r.mode; place = r.place; bytes = rest }
 
 -- the same in a buffer, behind which there are further bytes
-abbrev pub state_at : Parser → List ℕ → List ℕ → State
-state_at r bytes more = state_of r (drop r.at bytes ++ more)
+abbrev pub state_at : Parser → List ℕ → List ℕ → TextState
+state_at r bytes more = text_state r (drop r.at bytes ++ more)
 
 -- no list is open, and no comment goes on
 abbrev pub is_outermost : Parser → Bool
@@ -92,11 +92,11 @@ pub record HasCommand (bytes : List ℕ) (told : Bool) (old : Parser) (e : Sexpr
   pub passed : HasPassed bytes old new
   pub empty : new.stack ≡ empty_stack
   pub between : new.mode ≡ mode.Between
-  pub gives : (more : List ℕ) → (told ≡ true → more ≡ []) → (t : State) × Reads (state_at old bytes more) t × Gives t e new.place (drop new.at bytes ++ more)
+  pub gives : (more : List ℕ) → (told ≡ true → more ≡ []) → (t : TextState) × Reads (state_at old bytes more) t × GivesCommand t e new.place (drop new.at bytes ++ more)
 
 -- a fault was met
 abbrev pub IsFaulty : List ℕ → Bool → Parser → Place → Reason → Type 0
-IsFaulty bytes told old p r = (more : List ℕ) → (told ≡ true → more ≡ []) → (t : State) × Reads (state_at old bytes more) t × Refuses t p r
+IsFaulty bytes told old p r = (more : List ℕ) → (told ≡ true → more ≡ []) → (t : TextState) × Reads (state_at old bytes more) t × Refuses t p r
 
 -- all bytes were read
 abbrev pub IsAtEnd : List ℕ → Mode → Type 0
@@ -116,7 +116,7 @@ IsTurn bytes told old (turn.Refused p r) new = IsFaulty bytes told old p r
 IsTurn bytes told old turn.Waits new = Waits bytes told old new
 
 -- the text ends with these bytes, and has no command in them
-pub record IsFinished (bytes : List ℕ) (told : Bool) (old new : Parser) : Type 0 where
+pub record IsAtLast (bytes : List ℕ) (told : Bool) (old new : Parser) : Type 0 where
   pub is_told : told ≡ true
   pub gone : HasGone bytes told old new
   pub end : drop new.at bytes ≡ []
@@ -126,7 +126,7 @@ abbrev pub IsRead : List ℕ → Bool → Parser → Read → Parser → Type 0
 IsRead bytes told old (read.Command e) new = HasCommand bytes told old e new
 IsRead bytes told old (read.Refused p r) new = IsFaulty bytes told old p r
 IsRead bytes told old read.NeedMore new = Waits bytes told old new
-IsRead bytes told old read.Finished new = IsFinished bytes told old new
+IsRead bytes told old read.Finished new = IsAtLast bytes told old new
 
 -- what is answered where no byte is left
 abbrev pub IsEnd : Bool → Parser → Read → Type 0

@@ -20,7 +20,7 @@ use Rattle.rare_sexpr.specs.inner.Reading.{commands, outermost}
 
 -- the open lists, the innermost first, the items of all of them so far, whether a comment goes on, and
 -- the bytes that are left, with the place of the first of them
-pub record State : Type 0 where
+pub record TextState : Type 0 where
   pub opens : List Opened
   pub items : List Sexpr
   pub in_comment : Bool
@@ -28,11 +28,11 @@ pub record State : Type 0 where
   pub bytes : List ℕ
 
 -- the commands that are left
-abbrev pub left : State → Commands
+abbrev pub left : TextState → Commands
 left s = commands s.opens s.items (words (gap_mode s.in_comment) s.place s.bytes)
 
 -- the next byte begins an atom that comes to this
-pub record HasAtom (s : State) (w : Word) : Type 0 where
+pub record HasAtom (s : TextState) (w : Word) : Type 0 where
   pub between : s.in_comment ≡ false
   pub part : Part
   pub begins : begins_part (get_or s.bytes 0 0) ≡ Some part
@@ -40,41 +40,41 @@ pub record HasAtom (s : State) (w : Word) : Type 0 where
   pub some : 0 < length s.bytes
 
 -- an atom of so many bytes
-pub record HasWord (s : State) (k : AtomKind) (n : ℕ) : Type 0 where
+pub record HasWord (s : TextState) (k : AtomKind) (n : ℕ) : Type 0 where
   pub atom : HasAtom s (whole k n)
   pub some : 0 < n
   pub within : n ≤ length s.bytes
 
 -- the atom
-abbrev pub word_of : State → AtomKind → ℕ → Sexpr
-word_of s k n = atom_of s.place k (text_of_word k (take n s.bytes))
+abbrev pub atom_in : TextState → AtomKind → ℕ → Sexpr
+atom_in s k n = atom_of s.place k (text_of_word k (take n s.bytes))
 
 -- one word, or a part of a gap, is read
-pub data Takes : State → State → Type 0 where
-  gap : (s t : State) (passed : List ℕ) → s.bytes ≡ passed ++ t.bytes → t.place ≡ behind s.place passed → Passes s.in_comment passed t.in_comment → t.opens ≡ s.opens → t.items ≡ s.items → Takes s t
-  opens : (s t : State) (b : ℕ) → s.in_comment ≡ false → s.bytes ≡ b ∷ t.bytes → class b ≡ Open → nat_lt (length s.opens) most_nested_lists ≡ true →
+pub data Takes : TextState → TextState → Type 0 where
+  gap : (s t : TextState) (passed : List ℕ) → s.bytes ≡ passed ++ t.bytes → t.place ≡ behind s.place passed → Passes s.in_comment passed t.in_comment → t.opens ≡ s.opens → t.items ≡ s.items → Takes s t
+  opens : (s t : TextState) (b : ℕ) → s.in_comment ≡ false → s.bytes ≡ b ∷ t.bytes → class b ≡ Open → nat_lt (length s.opens) most_nested_lists ≡ true →
       t ≡ record { opens = record { place = s.place; before = length s.items } ∷ s.opens; items = s.items; in_comment = false; place = after b s.place; bytes = t.bytes } → Takes s t
-  closes : (s t : State) (b : ℕ) (o q : Opened) (os : List Opened) → s.in_comment ≡ false → s.bytes ≡ b ∷ t.bytes → class b ≡ Close → s.opens ≡ o ∷ q ∷ os →
+  closes : (s t : TextState) (b : ℕ) (o q : Opened) (os : List Opened) → s.in_comment ≡ false → s.bytes ≡ b ∷ t.bytes → class b ≡ Close → s.opens ≡ o ∷ q ∷ os →
       t ≡ record { opens = q ∷ os; items = take o.before s.items ++ list_of o.place (drop o.before s.items) ∷ []; in_comment = false; place = after b s.place; bytes = t.bytes } → Takes s t
-  atom : (s t : State) (k : AtomKind) (n : ℕ) (o : Opened) (os : List Opened) → HasWord s k n → s.opens ≡ o ∷ os →
-      t ≡ record { opens = s.opens; items = s.items ++ word_of s k n ∷ []; in_comment = false; place = behind s.place (take n s.bytes); bytes = drop n s.bytes } → Takes s t
+  atom : (s t : TextState) (k : AtomKind) (n : ℕ) (o : Opened) (os : List Opened) → HasWord s k n → s.opens ≡ o ∷ os →
+      t ≡ record { opens = s.opens; items = s.items ++ atom_in s k n ∷ []; in_comment = false; place = behind s.place (take n s.bytes); bytes = drop n s.bytes } → Takes s t
 
 -- one behind the other
-pub data Reads : State → State → Type 0 where
-  stays : (s : State) → Reads s s
-  goes : (s t u : State) → Reads s t → Takes t u → Reads s u
+pub data Reads : TextState → TextState → Type 0 where
+  stays : (s : TextState) → Reads s s
+  goes : (s t u : TextState) → Reads s t → Takes t u → Reads s u
 
 -- the next word ends a command, behind which these bytes are left, at this place
-pub data Gives : State → Sexpr → Place → List ℕ → Type 0 where
-  atom : (s : State) (k : AtomKind) (n : ℕ) → HasWord s k n → s.opens ≡ [] → Gives s (word_of s k n) (behind s.place (take n s.bytes)) (drop n s.bytes)
-  closes : (s : State) (b : ℕ) (rest : List ℕ) (o : Opened) → s.in_comment ≡ false → s.bytes ≡ b ∷ rest → class b ≡ Close → s.opens ≡ o ∷ [] →
-      Gives s (list_of o.place (drop o.before s.items)) (after b s.place) rest
+pub data GivesCommand : TextState → Sexpr → Place → List ℕ → Type 0 where
+  atom : (s : TextState) (k : AtomKind) (n : ℕ) → HasWord s k n → s.opens ≡ [] → GivesCommand s (atom_in s k n) (behind s.place (take n s.bytes)) (drop n s.bytes)
+  closes : (s : TextState) (b : ℕ) (rest : List ℕ) (o : Opened) → s.in_comment ≡ false → s.bytes ≡ b ∷ rest → class b ≡ Close → s.opens ≡ o ∷ [] →
+      GivesCommand s (list_of o.place (drop o.before s.items)) (after b s.place) rest
 
 -- the next word, or the end of the text, is a fault
-pub data Refuses : State → Place → Reason → Type 0 where
-  closed : (s : State) (b : ℕ) (rest : List ℕ) → s.in_comment ≡ false → s.bytes ≡ b ∷ rest → class b ≡ Close → s.opens ≡ [] → Refuses s s.place Unbalanced
-  ended : (s : State) → s.bytes ≡ [] → 0 < length s.opens → Refuses s (outermost s.opens s.place) Unbalanced
-  deep : (s : State) (b : ℕ) (rest : List ℕ) → s.in_comment ≡ false → s.bytes ≡ b ∷ rest → class b ≡ Open → nat_lt (length s.opens) most_nested_lists ≡ false → Refuses s s.place TooDeep
-  no_word : (s : State) (b : ℕ) (rest : List ℕ) → s.in_comment ≡ false → s.bytes ≡ b ∷ rest → class b ≡ Other → Refuses s s.place BadCharacter
-  byte : (s : State) (n : ℕ) → HasAtom s (bad n) → Refuses s (behind s.place (take n s.bytes)) BadCharacter
-  end : (s : State) (r : Reason) → HasAtom s (cut r) → Refuses s s.place r
+pub data Refuses : TextState → Place → Reason → Type 0 where
+  closed : (s : TextState) (b : ℕ) (rest : List ℕ) → s.in_comment ≡ false → s.bytes ≡ b ∷ rest → class b ≡ Close → s.opens ≡ [] → Refuses s s.place Unbalanced
+  ended : (s : TextState) → s.bytes ≡ [] → 0 < length s.opens → Refuses s (outermost s.opens s.place) Unbalanced
+  deep : (s : TextState) (b : ℕ) (rest : List ℕ) → s.in_comment ≡ false → s.bytes ≡ b ∷ rest → class b ≡ Open → nat_lt (length s.opens) most_nested_lists ≡ false → Refuses s s.place TooDeep
+  no_word : (s : TextState) (b : ℕ) (rest : List ℕ) → s.in_comment ≡ false → s.bytes ≡ b ∷ rest → class b ≡ Other → Refuses s s.place BadCharacter
+  byte : (s : TextState) (n : ℕ) → HasAtom s (bad n) → Refuses s (behind s.place (take n s.bytes)) BadCharacter
+  end : (s : TextState) (r : Reason) → HasAtom s (cut r) → Refuses s s.place r

@@ -1,59 +1,43 @@
 use Rattle.std.proofs.Common.{◌∙◌, sym}
 use Rattle.rare_sexpr.specs.Commands.{put_first}
-use Rattle.rare_check.specs.inner.CommandsRead.{command_at}
-use Rattle.rare_check.specs.Checking.{answer_from}
-use Rattle.rare_check.specs.inner.Progress.{progress_of}
-use Rattle.rare_check.specs.Stated.{stated}
-use Rattle.rare_check.proofs.Answering.{one_more}
-use Rattle.rare_check.proofs.Holding.{held_kept, held_more, held_same, problem_kept, progress_kept}
+use Rattle.rare_check.proofs.Holding.{answer_kept, command_kept, grows_keeps, held_kept, keeps_on}
 use Rattle.rare_check.proofs.checking.take_command.Goals as goal
-
-pub returns-in-Err-Memory-clause-held : goal.returns-in-Err-Memory-clause-held
-returns-in-Err-Memory-clause-held g c =
-    held_kept (g.T.Terms.state c.args.terms.now).trees (g.T.Terms.state c.read_command.new.terms).trees (g.T.Terms.state c.args.terms.now).declared (g.T.Terms.state c.read_command.new.terms).declared c.args.problem.now c.args.judged.now
-    c.in-Err-Memory.ensures.grows c.in-Err-Memory.ensures.symbols c.requires
-
-pub returns-in-Err-Memory-clause-problem : goal.returns-in-Err-Memory-clause-problem
-returns-in-Err-Memory-clause-problem g c =
-    problem_kept (g.T.Terms.state c.args.terms.now).trees (g.T.Terms.state c.read_command.new.terms).trees c.args.problem.now c.in-Err-Memory.ensures.grows c.requires.sides
-
-pub returns-in-Err-Unread-clause-held : goal.returns-in-Err-Unread-clause-held
-returns-in-Err-Unread-clause-held g c =
-    held_kept (g.T.Terms.state c.args.terms.now).trees (g.T.Terms.state c.read_command.new.terms).trees (g.T.Terms.state c.args.terms.now).declared (g.T.Terms.state c.read_command.new.terms).declared c.args.problem.now c.args.judged.now
-    c.in-Err-Unread.ensures.grows c.in-Err-Unread.ensures.symbols c.requires
-
-pub returns-in-Err-Unread-clause-problem : goal.returns-in-Err-Unread-clause-problem
-returns-in-Err-Unread-clause-problem g c =
-    problem_kept (g.T.Terms.state c.args.terms.now).trees (g.T.Terms.state c.read_command.new.terms).trees c.args.problem.now c.in-Err-Unread.ensures.grows c.requires.sides
-
-pub returns-in-Ok-judge-clause-ok : goal.returns-in-Ok-judge-clause-ok
-returns-in-Ok-judge-clause-ok g c = λ rest.
-    let old = (g.T.Terms.state c.args.terms.now).trees in
-    let new = (g.T.Terms.state c.read_command.new.terms).trees in
-    let same = problem_kept old new c.args.problem.now c.in-Ok.ensures.grows c.requires.sides in
-    let kept = progress_kept old new c.args.judged.now c.in-Ok.ensures.grows c.requires.matched in
-    (λ i. answer_from (sym same i) (sym kept i) (put_first (g.E.Expr.tree c.args.e.now) rest))
-    ∙ one_more (stated new c.args.problem.now) (progress_of new c.args.judged.now) (progress_of new c.judge.new.judged) (g.E.Expr.tree c.args.e.now) (command_at g.E.Expr.tree new c.in-Ok.command) rest
-    c.in-Ok.ensures.read.1 c.in-Ok-judge.ensures.ok
-
-pub returns-in-Ok-judge-clause-held : goal.returns-in-Ok-judge-clause-held
-returns-in-Ok-judge-clause-held g c =
-    let old = (g.T.Terms.state c.args.terms.now).trees in
-    let new = (g.T.Terms.state c.read_command.new.terms).trees in
-    let held = held_kept old new (g.T.Terms.state c.args.terms.now).declared (g.T.Terms.state c.read_command.new.terms).declared c.args.problem.now c.args.judged.now c.in-Ok.ensures.grows c.in-Ok.ensures.symbols c.requires in
-    held_more new (g.T.Terms.state c.read_command.new.terms).declared c.args.problem.now c.args.judged.now c.judge.new.judged (command_at g.E.Expr.tree new c.in-Ok.command) held c.in-Ok-judge.ensures.kept c.in-Ok-judge.ensures.ok
-
-pub returns-in-Ok-judge-clause-problem : goal.returns-in-Ok-judge-clause-problem
-returns-in-Ok-judge-clause-problem g c =
-    problem_kept (g.T.Terms.state c.args.terms.now).trees (g.T.Terms.state c.read_command.new.terms).trees c.args.problem.now c.in-Ok.ensures.grows c.requires.sides
 
 pub returns-in-Err-clause-held : goal.returns-in-Err-clause-held
 returns-in-Err-clause-held g c =
-    let old = (g.T.Terms.state c.args.terms.now).trees in
-    let new = (g.T.Terms.state c.read_command.new.terms).trees in
-    let held = held_kept old new (g.T.Terms.state c.args.terms.now).declared (g.T.Terms.state c.read_command.new.terms).declared c.args.problem.now c.args.judged.now c.in-Ok.ensures.grows c.in-Ok.ensures.symbols c.requires in
-    held_same new (g.T.Terms.state c.read_command.new.terms).declared c.args.problem.now c.args.judged.now c.judge.new.judged held c.in-Err.ensures.kept c.in-Err.ensures.err
+    held_kept (g.T.Terms.state c.args.terms.now) (g.T.Terms.state c.read_command.new.terms) c.args.rewrites.now c.args.scope.now c.args.judged.now c.in-Err.ensures.grows c.requires
 
-pub returns-in-Err-clause-problem : goal.returns-in-Err-clause-problem
-returns-in-Err-clause-problem g c =
-    problem_kept (g.T.Terms.state c.args.terms.now).trees (g.T.Terms.state c.read_command.new.terms).trees c.args.problem.now c.in-Ok.ensures.grows c.requires.sides
+pub returns-in-Err-clause-keeps : goal.returns-in-Err-clause-keeps
+returns-in-Err-clause-keeps g c =
+    grows_keeps (g.T.Terms.state c.args.terms.now) (g.T.Terms.state c.read_command.new.terms) c.args.rewrites.now c.args.scope.now c.args.judged.now c.in-Err.ensures.grows c.requires
+
+pub follow-requires-clause-held : goal.follow-requires-clause-held
+follow-requires-clause-held g c =
+    held_kept (g.T.Terms.state c.args.terms.now) (g.T.Terms.state c.read_command.new.terms) c.args.rewrites.now c.args.scope.now c.args.judged.now c.in-Ok.ensures.grows c.requires
+
+pub returns-in-Ok-follow-clause-ok : goal.returns-in-Ok-follow-clause-ok
+returns-in-Ok-follow-clause-ok g c = λ rest.
+    let old = g.T.Terms.state c.args.terms.now in
+    let new = g.T.Terms.state c.read_command.new.terms in
+    let e = g.E.Expr.tree c.args.e.now in
+    let rs = c.args.rewrites.now in
+    let scope = c.args.scope.now in
+    let j = c.args.judged.now in
+    sym (answer_kept old new rs scope j c.in-Ok.ensures.grows c.requires (put_first e rest))
+    ∙ c.in-Ok-follow.ensures.ok e rest (command_kept old new rs scope j c.in-Ok.ensures.grows c.requires e ∙ c.in-Ok.ensures.read)
+
+pub returns-in-Ok-follow-clause-keeps : goal.returns-in-Ok-follow-clause-keeps
+returns-in-Ok-follow-clause-keeps g c =
+    let old = g.T.Terms.state c.args.terms.now in
+    let new = g.T.Terms.state c.read_command.new.terms in
+    let rs = c.args.rewrites.now in
+    let scope = c.args.scope.now in
+    keeps_on old new new scope scope c.follow.new.scope rs (grows_keeps old new rs scope c.args.judged.now c.in-Ok.ensures.grows c.requires) c.in-Ok-follow.ensures.keeps
+
+pub returns-in-Err-follow-clause-keeps : goal.returns-in-Err-follow-clause-keeps
+returns-in-Err-follow-clause-keeps g c =
+    let old = g.T.Terms.state c.args.terms.now in
+    let new = g.T.Terms.state c.read_command.new.terms in
+    let rs = c.args.rewrites.now in
+    let scope = c.args.scope.now in
+    keeps_on old new new scope scope c.follow.new.scope rs (grows_keeps old new rs scope c.args.judged.now c.in-Ok.ensures.grows c.requires) c.in-Err-follow.ensures.keeps

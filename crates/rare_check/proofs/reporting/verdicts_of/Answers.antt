@@ -1,6 +1,6 @@
 use Rattle.std.proofs.Common.{◌<◌, ◌∙◌, ◌∷◌, [], ◌++◌, ◌+◌, sym, ap, map, drop, length, arith}
 use Rattle.rare_check.specs.Checking.{verdicts_with}
-use Rattle.rare_check.specs.Stated.{stated_rewrite}
+use Rattle.rare_text.specs.Stated.{stated_rewrite}
 use Rattle.rare_check.proofs.Answering.{verdict_more}
 use Rattle.rare_check.proofs.reporting.verdicts_of.Goals as goal
 

@@ -1,7 +1,7 @@
 use Rattle.std.proofs.Common.{◌≡◌, List, [], ◌++◌, map, drop}
 use Rattle.rare_sort.specs.declared.tree.Tree.{Tree}
 use Rattle.rare_check.specs.Checking.{verdicts_with}
-use Rattle.rare_check.specs.Stated.{stated_rewrite}
+use Rattle.rare_text.specs.Stated.{stated_rewrite}
 use Rattle.rare_check.proofs.reporting.verdicts_of.Given as goal
 
 abbrev pub invariant-loop-k : goal.invariant-loop-k

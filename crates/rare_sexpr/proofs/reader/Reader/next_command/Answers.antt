@@ -4,7 +4,7 @@ use Rattle.rare_sexpr.specs.declared.parser.Read.TheVariants as read
 use Rattle.rare_sexpr.specs.declared.reader.Refused.{Refused}
 use Rattle.rare_sexpr.specs.declared.reader.Reader.TheInside.{Inside}
 use Rattle.rare_sexpr.specs.Answered.{IsWaiting, IsRefused, IsFinished}
-use Rattle.rare_sexpr.specs.inner.Kept.{stream_of, IsKept}
+use Rattle.rare_sexpr.specs.inner.Kept.{stream_of, ReaderInvariant}
 use Rattle.rare_sexpr.proofs.Readers.{kept_command, kept_again, kept_refused, kept_outermost, kept_inside, kept_finished, read_as, first_read, first_decided, refused_read, refused_decided, waits_outside, waits_inside, undecided_waits, finished_read}
 use Rattle.rare_sexpr.proofs.reader.Reader.next_command.Goals as goal
 use Rattle.rare_sexpr.proofs.reader.Reader.next_command.Goals.{then-is_outermost, else-is_outermost}
@@ -18,7 +18,7 @@ pub invariant_of-self-in-Ok-Refused : goal.invariant_of-self-in-Ok-Refused
 invariant_of-self-in-Ok-Refused c =
     let reason : Option Refused = Some (record { place = c.in-Ok-Refused.place; reason = c.in-Ok-Refused.reason }) in
     let now : Parser → Inside = λ p. record c.self.inside { parser = p; refusal = reason } in
-    subst (λ p. IsKept (now p)) (sym c.new.ensures) (kept_refused c.self.inside reason c.self.invariant)
+    subst (λ p. ReaderInvariant (now p)) (sym c.new.ensures) (kept_refused c.self.inside reason c.self.invariant)
 
 pub invariant_of-self-then-is_outermost : goal.invariant_of-self-then-is_outermost
 invariant_of-self-then-is_outermost c =
@@ -34,12 +34,12 @@ invariant_of-self-else-is_outermost c =
 pub invariant_of-self-in-Ok-Finished : goal.invariant_of-self-in-Ok-Finished
 invariant_of-self-in-Ok-Finished c =
     let now : Parser → Inside = λ p. record c.self.inside { start = c.read.new.self.at; place = c.read.new.self.place; parser = p } in
-    subst (λ p. IsKept (now p)) (sym c.new-in-Ok-Finished.ensures)
+    subst (λ p. ReaderInvariant (now p)) (sym c.new-in-Ok-Finished.ensures)
     (kept_finished c.self.inside c.read.new.self c.self.invariant
     (read_as c.self.inside c.as_slice.result.now c.in-Ok-Finished.field-0 read.Finished c.read.new.self c.as_slice.ensures.value c.in-Ok-Finished.field-0-is c.in-Ok-Finished.ensures))
 
 pub invariant_of-self-in-Err : goal.invariant_of-self-in-Err
-invariant_of-self-in-Err c = subst (λ p. IsKept (record c.self.inside { parser = p })) (sym c.new-in-Err.ensures) (kept_again c.self.inside c.self.invariant)
+invariant_of-self-in-Err c = subst (λ p. ReaderInvariant (record c.self.inside { parser = p })) (sym c.new-in-Err.ensures) (kept_again c.self.inside c.self.invariant)
 
 pub returns-in-Ok-Command-clause-next : goal.returns-in-Ok-Command-clause-next
 returns-in-Ok-Command-clause-next c =

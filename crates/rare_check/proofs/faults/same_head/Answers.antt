@@ -1,5 +1,0 @@
-use Rattle.rare_check.proofs.Judgements.{heads_same}
-use Rattle.rare_check.proofs.faults.same_head.Goals as goal
-
-pub returns : goal.returns
-returns c = heads_same c.args.a c.args.b c.is_same_head.result c.is_same_head.ensures

@@ -1,0 +1,4 @@
+pub mod WordLemmas
+pub mod LiteralSteps
+pub mod SymbolLemmas
+pub mod IndexSteps

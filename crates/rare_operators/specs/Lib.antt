@@ -1,0 +1,7 @@
+pub mod OperatorWords
+pub mod Applications
+pub mod LiteralText
+pub mod HeadText
+pub mod AtomText
+pub mod TermAnswers
+pub mod inner

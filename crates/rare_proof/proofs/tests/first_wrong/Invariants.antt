@@ -1,0 +1,5 @@
+use Rattle.rare_proof.specs.Proofs.{IsProofOver}
+use Rattle.rare_proof.proofs.tests.first_wrong.Given as goal
+
+abbrev pub invariant-loop-row : goal.invariant-loop-row
+invariant-loop-row g l = IsProofOver (g.T.Terms.state l.terms).trees l.proof

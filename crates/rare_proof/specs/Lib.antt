@@ -1,0 +1,7 @@
+pub mod Items
+pub mod Steps
+pub mod Words
+pub mod Sided
+pub mod Proofs
+pub mod StepLaws
+pub mod inner

@@ -1,0 +1,4 @@
+pub mod Growing
+pub mod Naming
+pub mod Listing
+pub mod Shapes

@@ -1,0 +1,4 @@
+pub mod ProofCommands
+pub mod ProofText
+pub mod Commands
+pub mod inner

@@ -1,0 +1,132 @@
+//! Commands of proofs, read from expressions.
+ghost use Rattle.rare_operators.specs.TermAnswers.{Grows};
+ghost use Rattle.rare_proof_text.specs.Commands.{AnswersCommand, CommandHasIds, DefinesNew};
+ghost use Rattle.rare_proof_text.specs.ProofText.{conclusion_command, proof_command};
+ghost use Rattle.rare_proof_text.specs.declared.words.ProofWord.TheVariants as word;
+ghost use Rattle.rare_proof_text.specs.inner.Parts.{behind_word};
+ghost use Rattle.rare_scope.specs.Names.{AreMeant, Held, Names, names_of};
+ghost use Rattle.rare_sexpr.specs.Tree.{items_of};
+ghost use Rattle.rare_sort.specs.declared.declarations.Declarations.{Declarations};
+ghost use Rattle.rare_sort.specs.declared.tree.Tree.{Tree};
+ghost use Rattle.std.specs.Prelude.{ℕ, List, IfOk, length};
+
+use crate::command::ReadCommand;
+use crate::definition::read_definition;
+use crate::parts::symbol_of;
+use crate::step::read_step;
+use crate::words::{ProofWord, word_of};
+use rare_base::{Fault, Reason};
+use rare_scope::{Scope, is_symbol, refusal_at};
+use rare_sexpr::Expr;
+use rare_term::Terms;
+use std::alloc::Global;
+
+fn read_names<'e, E: Expr>(name: &'e E, id: &'e E) -> Result<ReadCommand<'e, E>, Fault>
+    ensures read { (ts : List Tree) → AnswersCommand E.tree ts result
+        (conclusion_command (E.tree name.now) (E.tree id.now)) }
+    ensures ids { (n : ℕ) → IfOk result (CommandHasIds n) }
+    ensures new { (held : Held) → IfOk result (DefinesNew held) }
+{
+    let name = symbol_of(name)?;
+    let id = symbol_of(id)?;
+    Ok(ReadCommand::Conclude { name, id })
+}
+
+// The conclusion that the items of a command spell, or its first fault.
+fn read_conclusion<E: Expr>(e: &E) -> Result<ReadCommand<'_, E>, Fault>
+    ensures read { (ts : List Tree) (d : Declarations) (names : Names) →
+        AnswersCommand E.tree ts result (behind_word d names (E.tree e.now) word.Conclude
+        (items_of (E.tree e.now))) }
+    ensures ids { (n : ℕ) → IfOk result (CommandHasIds n) }
+    ensures new { (held : Held) → IfOk result (DefinesNew held) }
+{
+    if e.len() != 3 {
+        return Err(refusal_at(e, Reason::BadForm));
+    }
+    let name = e.item(1);
+    let id = e.item(2);
+    read_names(name, id)
+}
+
+// The step that the items of a command spell, as a command.
+fn read_step_command<'e, E: Expr, T: Terms>(
+    alloc: Global,
+    e: &'e E,
+    scope: &Scope,
+    terms: &mut T,
+) -> Result<ReadCommand<'e, E>, Fault>
+    requires { AreMeant (T.state terms.old) scope.now }
+    ensures read { AnswersCommand E.tree (T.state terms.new).trees result
+        (behind_word (T.state terms.old).declared
+        (names_of (T.state terms.old).trees scope.now) (E.tree e.now) word.Step
+        (items_of (E.tree e.now))) }
+    ensures ids { IfOk result (CommandHasIds (length (T.state terms.new).trees)) }
+    ensures new { IfOk result (DefinesNew scope.now) }
+    ensures grows { Grows (T.state terms.old) (T.state terms.new) }
+{
+    match read_step(alloc, e, scope, terms) {
+        Ok(step) => Ok(ReadCommand::Step(step)),
+        Err(fault) => Err(fault),
+    }
+}
+
+// The command of this word that the items of a command spell, or its first fault.
+fn read_by_word<'e, E: Expr, T: Terms>(
+    alloc: Global,
+    e: &'e E,
+    word: ProofWord,
+    scope: &Scope,
+    terms: &mut T,
+) -> Result<ReadCommand<'e, E>, Fault>
+    requires { AreMeant (T.state terms.old) scope.now }
+    ensures read { AnswersCommand E.tree (T.state terms.new).trees result
+        (behind_word (T.state terms.old).declared
+        (names_of (T.state terms.old).trees scope.now) (E.tree e.now) word
+        (items_of (E.tree e.now))) }
+    ensures ids { IfOk result (CommandHasIds (length (T.state terms.new).trees)) }
+    ensures new { IfOk result (DefinesNew scope.now) }
+    ensures grows { Grows (T.state terms.old) (T.state terms.new) }
+{
+    match word {
+        ProofWord::DefineFun => read_definition(alloc, e, scope, terms),
+        ProofWord::Step => read_step_command(alloc, e, scope, terms),
+        ProofWord::Conclude => read_conclusion(e),
+    }
+}
+
+/// The command of a proof that an expression spells over the names of a scope, or its first fault:
+/// `(define-fun @K () S t)`; `(step ID (cl (= a b)) :rule R)`, where `:premises (ID ..)` may follow the
+/// rule; or `(conclude NAME ID)`.
+///
+/// Errors are `UnknownCommand` at a list that begins with another word; `DeclaredTwice`,
+/// `ReservedSymbol` and `BadForm` at a defined name that is taken, is reserved, or does not begin with
+/// `@`; `IllSorted` at a stated sort that is not that of the term, and at a step whose sides have two
+/// sorts; `UnknownRule` at the word of no rule; those of `read_sort` and `read_term`; `BadForm` at an
+/// expression of another form; and want of memory. After an error the terms may have grown, and old ids
+/// stand.
+pub fn read_command<'e, E: Expr, T: Terms>(
+    alloc: Global,
+    e: &'e E,
+    scope: &Scope,
+    terms: &mut T,
+) -> Result<ReadCommand<'e, E>, Fault>
+    requires { AreMeant (T.state terms.old) scope.now }
+    ensures read { AnswersCommand E.tree (T.state terms.new).trees result
+        (proof_command (T.state terms.old).declared
+        (names_of (T.state terms.old).trees scope.now) (E.tree e.now)) }
+    ensures ids { IfOk result (CommandHasIds (length (T.state terms.new).trees)) }
+    ensures new { IfOk result (DefinesNew scope.now) }
+    ensures grows { Grows (T.state terms.old) (T.state terms.new) }
+{
+    if e.len() == 0 {
+        return Err(refusal_at(e, Reason::BadForm));
+    }
+    let head = e.item(0);
+    if !is_symbol(head) {
+        return Err(refusal_at(e, Reason::BadForm));
+    }
+    match word_of(head.text()) {
+        Some(word) => read_by_word(alloc, e, word, scope, terms),
+        None => Err(refusal_at(e, Reason::UnknownCommand)),
+    }
+}

@@ -1,0 +1,25 @@
+use Rattle.std.proofs.Common.{◌≡◌, sym, ◌∙◌, ap, subst, arith, length}
+use Rattle.rare_scope.specs.Reading.{Read}
+use Rattle.rare_sexpr.specs.Tree.{items_of}
+use Rattle.rare_text.specs.declared.commands.CommandWord.TheVariants.{DefineFun}
+use Rattle.rare_text.specs.ProblemText.{command_by}
+use Rattle.rare_text.specs.Problems.{StatedProblem}
+use Rattle.rare_text.specs.Stated.{stated_problem}
+use Rattle.rare_text.specs.inner.Standing.{AnswersReader}
+use Rattle.rare_text.proofs.CommandForms.{other_definition, four_behind}
+use Rattle.rare_text.proofs.taking.take_definition.Goals as goal
+
+pub returns-then-len-ne5-clause-read : goal.returns-then-len-ne5-clause-read
+returns-then-len-ne5-clause-read g c =
+    let p = stated_problem (g.T.Terms.state c.args.terms.now) c.args.reader.problem in
+    let e = g.E.Expr.tree c.args.e.now in
+    rw c.refusal_at.ensures (other_definition p e (items_of e) (λ n. c.if-len-ne5.true (c.len.ensures ∙ n)))
+
+pub returns-clause-read : goal.returns-clause-read
+returns-clause-read g c =
+    let p = stated_problem (g.T.Terms.state c.args.terms.now) c.args.reader.problem in
+    let x = g.E.Expr.tree in
+    let e = x c.args.e.now in
+    let n : length (items_of e) ≡ 5 = omega (arith, c.len.ensures, c.if-len-ne5.false) in
+    let Q : Read StatedProblem → Type 0 = λ r. AnswersReader (g.T.Terms.state c.read_definition.new.terms) c.read_definition.result r in
+    subst Q (sym (ap (command_by p e DefineFun) (four_behind (items_of e) (x c.item.result.now) (x c.item-2.result.now) (x c.item-3.result.now) (x c.item-4.result.now) n c.item.ensures c.item-2.ensures c.item-3.ensures c.item-4.ensures))) c.read_definition.ensures.read
