@@ -1,0 +1,13 @@
+pub mod Joining
+pub mod Atoms
+pub mod Finding
+pub mod Linears
+pub mod Sums
+pub mod Lists
+pub mod Sorts
+pub mod Rules
+pub mod Heads
+pub mod Leaves
+pub mod Literals
+pub mod Operators
+pub mod Applications

@@ -1,0 +1,3 @@
+pub mod OperatorTexts
+pub mod TermPrinting
+pub mod inner
