@@ -1,4 +1,5 @@
 //! Laws of operators with lists, as contracts.
+ghost use Rattle.rare_shapes.specs.TheOperators.{JoinsAreTold, TheOperators};
 ghost use Rattle.rare_shapes.specs.ShapeLaws.{EachShapeHolds};
 ghost use Rattle.rare_shapes.specs.Totals.{ApplicationsHaveTotals};
 
@@ -12,4 +13,11 @@ pub fn applications_have_totals()
 /// may be turned round, and the neutral value may be left out.
 pub fn shapes_hold()
     ensures { EachShapeHolds }
+{}
+
+/// `and`, `or`, `+`, `*`, `bvadd`, `bvmul`, `bvand`, `bvor` and `bvxor` are such operators, and `concat`
+/// gives a bit vector of the total width.
+pub fn operators_stand()
+    ensures operators { TheOperators }
+    ensures joins { JoinsAreTold }
 {}

@@ -3,4 +3,4 @@
 
 mod laws;
 
-pub use laws::{applications_have_totals, shapes_hold};
+pub use laws::{applications_have_totals, operators_stand, shapes_hold};

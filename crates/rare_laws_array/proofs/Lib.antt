@@ -1,0 +1,5 @@
+mod ArraySorts
+mod ArrayForms
+mod ArrayTypes
+mod ArrayLaws
+pub mod ArrayHolds

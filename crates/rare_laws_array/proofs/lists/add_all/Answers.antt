@@ -1,0 +1,5 @@
+use Rattle.std.proofs.Common.{append_assoc, arith}
+use Rattle.rare_laws_array.proofs.lists.add_all.Goals as goal
+
+pub returns : goal.returns
+returns c = grind (arith, append_assoc)

@@ -1,0 +1,3 @@
+pub mod ArrayParams
+pub mod ArrayRules
+pub mod ArrayTable

@@ -1,0 +1,4 @@
+mod BvArithForms
+mod BvArithTypes
+mod BvArithLaws
+pub mod BvArithHolds

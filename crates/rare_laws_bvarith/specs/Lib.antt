@@ -1,0 +1,2 @@
+pub mod BvArithRules
+pub mod BvArithTable

@@ -1,0 +1,7 @@
+mod BvBitwiseForms
+mod BvBitwiseTypes
+mod BvBitwiseLaws
+mod BvSliceForms
+mod BvSliceTypes
+mod BvSliceLaws
+pub mod BvBitsHolds

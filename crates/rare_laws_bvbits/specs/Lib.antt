@@ -1,0 +1,3 @@
+pub mod BvBitwiseRules
+pub mod BvSliceRules
+pub mod BvBitsTable

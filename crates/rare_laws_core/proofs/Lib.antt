@@ -1,0 +1,4 @@
+mod CoreForms
+mod CoreTypes
+mod CoreLaws
+pub mod CoreHolds

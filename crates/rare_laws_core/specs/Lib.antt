@@ -1,0 +1,3 @@
+pub mod CoreParams
+pub mod CoreRules
+pub mod CoreTable

@@ -1,0 +1,5 @@
+mod IntForms
+mod IntTypes
+mod WholeFacts
+mod IntLaws
+pub mod IntHolds

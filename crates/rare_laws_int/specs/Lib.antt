@@ -1,0 +1,3 @@
+pub mod IntParams
+pub mod IntRules
+pub mod IntTable

@@ -1,0 +1,27 @@
+//! The book that is shipped: names, places and how many constraints there are.
+use super::*;
+use std::test::Fail;
+
+#[test]
+fn the_rules_stand_in_order(rt: HostRuntime) -> Result<(), Fail> {
+    let book = shipped(rt.alloc())?;
+    assert_eq!(rt; book.len(), 96);
+    for (name, place, constraints) in [
+        ("bool-not-not", 0, 0),
+        ("distinct-elim", 31, 0),
+        ("int-add-zero", 32, 0),
+        ("int-abs-elim", 51, 0),
+        ("arr-store-swap", 57, 0),
+        ("bv-add-zero", 58, 0),
+        ("bv-urem-zero", 72, 0),
+        ("bv-extract-extract", 91, 5),
+        ("bv-zero-extend", 95, 1),
+    ] {
+        assert_eq!(rt; book.find(name.as_bytes()), Some(place), "{name}");
+        assert!(rt; place < book.len());
+        assert!(rt; book.is_shipped(place), "{name}");
+        assert_eq!(rt; book.rule(place).constraints().len(), constraints, "{name}");
+    }
+    assert_eq!(rt; book.find(b"bv-or-dup".as_slice()), None);
+    Ok(())
+}
