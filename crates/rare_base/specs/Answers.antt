@@ -3,7 +3,7 @@ use Rattle.std.specs.Prelude.{ℕ, List, codes}
 use Rattle.rare_base.specs.declared.answers.Status.{Status}
 use Rattle.rare_base.specs.declared.answers.Status.TheVariants.{AllGood, NotAll, BadWords, BadText, ReadFault, WriteFault, Memory, TooLong}
 use Rattle.rare_base.specs.declared.answers.Reason.{Reason}
-use Rattle.rare_base.specs.declared.answers.Reason.TheVariants.{Unbalanced, BadCharacter, OpenString, OpenSymbol, TooDeep, BadForm, UnknownCommand, UnknownSymbol, DeclaredTwice, ReservedSymbol, BadSort, IllSorted, LiteralTooWide, TermLimit, NonLinear, SampleFails, UnknownRule}
+use Rattle.rare_base.specs.declared.answers.Reason.TheVariants.{Unbalanced, BadCharacter, OpenString, OpenSymbol, TooDeep, BadForm, UnknownCommand, UnknownSymbol, DeclaredTwice, ReservedSymbol, BadSort, IllSorted, LiteralTooWide, TermLimit, NonLinear, SampleFails, UnknownRule, DuplicateParam, RuleTooLarge, ContextForm, MisplacedList, LeftIndex, Unbound, Clash, NeverHolds, DuplicateName}
 use Rattle.rare_base.specs.declared.answers.Place.{Place}
 
 abbrev pub number_of : Status → ℕ
@@ -34,6 +34,15 @@ reason_word TermLimit = codes "TermLimit"
 reason_word NonLinear = codes "NonLinear"
 reason_word SampleFails = codes "SampleFails"
 reason_word UnknownRule = codes "UnknownRule"
+reason_word DuplicateParam = codes "DuplicateParam"
+reason_word RuleTooLarge = codes "RuleTooLarge"
+reason_word ContextForm = codes "ContextForm"
+reason_word MisplacedList = codes "MisplacedList"
+reason_word LeftIndex = codes "LeftIndex"
+reason_word Unbound = codes "Unbound"
+reason_word Clash = codes "Clash"
+reason_word NeverHolds = codes "NeverHolds"
+reason_word DuplicateName = codes "DuplicateName"
 
 -- where and why a text is refused
 pub record Refusal : Type 0 where

@@ -90,6 +90,26 @@ pub enum Reason {
     SampleFails,
     /// The word for the rule of a step is none of those that are known, at the word.
     UnknownRule,
+    /// A parameter or definition of a rule has a name that stands before it, or one that none may have, at
+    /// the name.
+    DuplicateParam,
+    /// A rule has too many nodes, or too many list variables in one application of its left side, at the
+    /// rule.
+    RuleTooLarge,
+    /// The hole of a rule stands not exactly once in its context, or elsewhere, at the rule.
+    ContextForm,
+    /// A list variable is no argument of an operator that lists are spliced into, at the rule.
+    MisplacedList,
+    /// An expression of the left side uses a name that is not determined before it, at the rule.
+    LeftIndex,
+    /// The left side of a rule does not determine a name, at the rule.
+    Unbound,
+    /// The rules of sorts fail in a rule, at the rule.
+    Clash,
+    /// A constraint of a rule that has no name is false, at the rule.
+    NeverHolds,
+    /// A rule of the name stands before it, at the rule.
+    DuplicateName,
 }
 
 impl Reason {
@@ -115,6 +135,15 @@ impl Reason {
             Reason::NonLinear => "NonLinear",
             Reason::SampleFails => "SampleFails",
             Reason::UnknownRule => "UnknownRule",
+            Reason::DuplicateParam => "DuplicateParam",
+            Reason::RuleTooLarge => "RuleTooLarge",
+            Reason::ContextForm => "ContextForm",
+            Reason::MisplacedList => "MisplacedList",
+            Reason::LeftIndex => "LeftIndex",
+            Reason::Unbound => "Unbound",
+            Reason::Clash => "Clash",
+            Reason::NeverHolds => "NeverHolds",
+            Reason::DuplicateName => "DuplicateName",
         }
     }
 }

@@ -134,6 +134,15 @@ fn texts_hold_their_bytes(rt: HostRuntime) -> Result<(), Fail> {
         (Reason::NonLinear, "NonLinear"),
         (Reason::SampleFails, "SampleFails"),
         (Reason::UnknownRule, "UnknownRule"),
+        (Reason::DuplicateParam, "DuplicateParam"),
+        (Reason::RuleTooLarge, "RuleTooLarge"),
+        (Reason::ContextForm, "ContextForm"),
+        (Reason::MisplacedList, "MisplacedList"),
+        (Reason::LeftIndex, "LeftIndex"),
+        (Reason::Unbound, "Unbound"),
+        (Reason::Clash, "Clash"),
+        (Reason::NeverHolds, "NeverHolds"),
+        (Reason::DuplicateName, "DuplicateName"),
     ] {
         assert_eq!(rt; reason.word(), word);
     }

@@ -1,10 +1,12 @@
 //! The names of a scope, and over them those that `let`s bind.
-ghost use Rattle.std.specs.Prelude.{◌≡◌, ◌++◌, refl};
+ghost use Rattle.std.specs.Prelude.{◌≡◌, ◌++◌};
 ghost use Rattle.rare_scope.specs.LinearText.{widths_held};
 ghost use Rattle.rare_scope.specs.Names.{found};
 
 use crate::bound::Bound;
+use rare_linear::Linear;
 use rare_scope::{Meaning, Scope, WidthNames};
+use std::alloc::{AllocError, Global};
 use std::marker::Model;
 
 /// The names of a scope, and over them those that `let`s bind, which hide others. Contracts see it as the
@@ -48,12 +50,18 @@ impl<'s> Bindings<'s> {
 impl<'s> WidthNames for Bindings<'s> {
     ghost names = { λ bindings. widths_held bindings };
 
-    ghost no_sizes = { λ w. refl };
-
     fn number(&self, name: &[u8]) -> Option<u32> {
         match self.find(name) {
             Some(Meaning::Width(k)) => Some(k),
             _ => None,
         }
+    }
+
+    fn has_sizes(&self) -> bool {
+        false
+    }
+
+    fn size(&self, _alloc: Global, _name: &[u8]) -> Result<Option<Linear>, AllocError> {
+        Ok(None)
     }
 }

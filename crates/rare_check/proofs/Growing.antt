@@ -3,8 +3,7 @@ use Rattle.std.proofs.Common.{◌≡◌, ℕ, zero, suc, ◌+◌, ◌<◌, ◌�
 use Rattle.std.proofs.lemmas.List.Elements.{All-head, All-tail}
 use Rattle.rare_sort.specs.Ids.{tree_at, Extends}
 use Rattle.rare_sort.specs.declared.tree.Tree.{Tree}
-use Rattle.rare_term.specs.State.{State}
-use Rattle.rare_operators.specs.TermAnswers.{Grows}
+use Rattle.rare_term.specs.State.{State, Grows}
 use Rattle.rare_text.specs.Problems.{StatedRewrite}
 use Rattle.rare_text.specs.Stated.{HaveIds, stated_rewrite}
 use Rattle.rare_text.specs.declared.problem.Rewrite.{Rewrite}

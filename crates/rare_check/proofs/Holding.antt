@@ -6,8 +6,7 @@ use Rattle.rare_sort.specs.declared.declarations.Declarations.{Declarations}
 use Rattle.rare_sort.specs.declared.tree.TermId.{TermId}
 use Rattle.rare_sort.specs.declared.tree.Tree.{Tree}
 use Rattle.rare_sort.specs.Ids.{tree_at, Extends}
-use Rattle.rare_operators.specs.TermAnswers.{Grows}
-use Rattle.rare_term.specs.State.{State}
+use Rattle.rare_term.specs.State.{State, Grows}
 use Rattle.rare_scope.specs.Names.{Held, Meant, AreMeant, IsMeant, names_of, meant}
 use Rattle.rare_scope.specs.declared.meaning.Meaning.{Meaning}
 use Rattle.rare_scope.specs.declared.meaning.Meaning.TheVariants as meaning

@@ -1,5 +1,5 @@
 -- The steps of a reading of an operator with indices.
-use Rattle.std.proofs.Common.{◌≡◌, ℕ, ◌+◌, ◌≤◌, true, List, [], ◌∷◌, ◌++◌, drop, length, slice_get, Some, Ok, Err, refl, sym, ap, ◌∙◌, arith, append_assoc}
+use Rattle.std.proofs.Common.{◌≡◌, ℕ, zero, suc, ◌+◌, ◌<◌, ◌≤◌, true, List, [], ◌∷◌, ◌++◌, drop, take, length, slice_get, Some, Ok, Err, refl, sym, ap, ◌∙◌, arith, append_assoc}
 use Rattle.std.specs.Prelude.{codes}
 use Rattle.std.proofs.lemmas.Option.{none-some, same_Some}
 use Rattle.rare_base.specs.declared.answers.Fault.{Fault}
@@ -11,6 +11,21 @@ use Rattle.rare_scope.specs.Reading.{Read, go_on, is_word}
 use Rattle.rare_scope.proofs.InOrder.{fails_on}
 use Rattle.rare_scope.proofs.Listing.{drop_at}
 use Rattle.rare_operators.specs.HeadText.{indices_at, indexed_by, indexed_head, indexed_word_at}
+
+-- ---- lists up to an item
+
+pub whole_list : (xs : List Sexpr) (n : ℕ) → n ≡ length xs → take n xs ≡ xs
+whole_list xs n is = ap (λ k. take k xs) is ∙ go xs
+  where
+    go : (xs : List Sexpr) → take (length xs) xs ≡ xs
+    go [] = refl
+    go (x ∷ xs) = ap (λ ys. x ∷ ys) (go xs)
+
+pub get_before : (xs : List Sexpr) (n k : ℕ) (x : Sexpr) → k < n → slice_get xs k ≡ Some x → slice_get (take n xs) k ≡ Some x
+get_before [] n k x lt is = absurd (none-some x is)
+get_before (y ∷ ys) zero k x lt is = absurd (omega (arith, lt))
+get_before (y ∷ ys) (suc n) zero x lt is = is
+get_before (y ∷ ys) (suc n) (suc k) x lt is = get_before ys n k x (omega (arith, lt)) is
 
 module _ (w : WidthNames) where
   -- what was read, and behind it what is read of the rest

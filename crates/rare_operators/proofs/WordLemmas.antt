@@ -14,7 +14,7 @@ use Rattle.rare_operators.specs.declared.words.WordUse.{WordUse}
 use Rattle.rare_operators.specs.declared.words.WordUse.TheVariants.{Constant, Difference, Plain}
 use Rattle.rare_operators.specs.declared.words.IndexedWord.{IndexedWord}
 use Rattle.rare_operators.specs.OperatorWords.{operator_words, operator_of_word, indexed_words}
-use Rattle.rare_operators.specs.inner.Plain.{IsPlain, IsPlainUse}
+use Rattle.rare_operators.specs.Plain.{IsPlain, IsPlainUse}
 
 abbrev is_plain_family : Family → Bool
 is_plain_family (kind.Symbol k) = false

@@ -1,4 +1,5 @@
 pub mod OperatorWords
+pub mod Plain
 pub mod Applications
 pub mod LiteralText
 pub mod HeadText

@@ -5,7 +5,8 @@ ghost use Rattle.rare_sort.specs.Families.{family};
 ghost use Rattle.rare_sort.specs.Ids.{trees_at, AreIds};
 ghost use Rattle.rare_term.specs.Literals.{IsGiven};
 ghost use Rattle.rare_operators.specs.Applications.{application_at as reading};
-ghost use Rattle.rare_operators.specs.TermAnswers.{AnswersTerm, Grows};
+ghost use Rattle.rare_term.specs.State.{Grows};
+ghost use Rattle.rare_operators.specs.TermAnswers.{AnswersTerm};
 
 use rare_base::{Fault, Reason};
 use rare_linear::Linear;

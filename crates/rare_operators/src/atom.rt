@@ -10,7 +10,8 @@ ghost use Rattle.rare_term.specs.Refusals.{refusal};
 ghost use Rattle.rare_operators.specs.AtomText.{atom_at, constant_unless, named_term, word_term};
 ghost use Rattle.rare_operators.specs.LiteralText.{numeral_term};
 ghost use Rattle.rare_operators.specs.OperatorWords.{operator_of_word};
-ghost use Rattle.rare_operators.specs.TermAnswers.{AnswersTerm, Grows};
+ghost use Rattle.rare_term.specs.State.{Grows};
+ghost use Rattle.rare_operators.specs.TermAnswers.{AnswersTerm};
 
 use crate::application::application_at;
 use crate::literal::{read_binary_literal, read_hexadecimal_literal};

@@ -12,9 +12,9 @@ ghost use Rattle.rare_term.specs.Literals.{IsGiven};
 ghost use Rattle.rare_operators.specs.HeadText as text;
 ghost use Rattle.rare_operators.specs.HeadText.{head_at, symbol_head, unless_alone};
 ghost use Rattle.rare_operators.specs.OperatorWords.{operator_of_word};
-ghost use Rattle.rare_operators.specs.TermAnswers.{Grows};
-ghost use Rattle.rare_operators.specs.inner.Plain.{IsPlain};
-ghost use Rattle.rare_operators.specs.inner.DeclaredHead.{IsBare, IsDeclaredHead};
+ghost use Rattle.rare_term.specs.State.{Grows};
+ghost use Rattle.rare_operators.specs.Plain.{IsBare, IsPlain};
+ghost use Rattle.rare_operators.specs.inner.DeclaredHead.{IsDeclaredHead};
 
 use crate::indexed::read_indexed_head;
 use crate::words::{WordUse, word_use};
@@ -73,8 +73,10 @@ fn difference(arguments: usize) -> Head
     }
 }
 
-// The operator that a word of the theories is.
-fn word_head<E: Expr>(
+/// The operator that the word `head` of the theories is at the head of the list `e`, which has
+/// `arguments` items behind it: `UnknownSymbol` at a word that is no operator, and `BadForm` at the list
+/// where it holds nothing but `true` or `false`.
+pub fn word_head<E: Expr>(
     alloc: Global,
     e: &E,
     head: &E,

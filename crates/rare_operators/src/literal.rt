@@ -11,7 +11,8 @@ ghost use Rattle.rare_sort.specs.Families.{family};
 ghost use Rattle.rare_term.specs.Literals.{IsGiven};
 ghost use Rattle.rare_operators.specs.LiteralText as text;
 ghost use Rattle.rare_operators.specs.LiteralText.{are_digits, binary_literal, decimal_literal, digits_behind, hexadecimal_literal, linear_literal, numeral_at};
-ghost use Rattle.rare_operators.specs.TermAnswers.{AnswersTerm, Grows};
+ghost use Rattle.rare_term.specs.State.{Grows};
+ghost use Rattle.rare_operators.specs.TermAnswers.{AnswersTerm};
 
 use rare_base::{Fault, Reason};
 use rare_bindings::Bindings;
@@ -51,8 +52,8 @@ fn literal_at<E: Expr, T: Terms>(
     }
 }
 
-// Whether a value is below `2^width`.
-fn is_below_power(value: u128, width: u128) -> bool
+/// Whether a value is below `2^width`.
+pub fn is_below_power(value: u128, width: u128) -> bool
     ensures { result ≡ nat_lt value (2 ^ width) }
 {
     if width >= 128 {
@@ -153,8 +154,9 @@ fn is_digits(text: &[u8]) -> bool
     true
 }
 
-// The number behind `bv`, or none where it is above `2^128 - 1`.
-fn value_behind<E: Expr>(e: &E) -> Result<Option<u128>, Fault>
+/// The number behind `bv` in a symbol, or none where it is above `2^128 - 1`. The error is `BadForm` at
+/// another expression.
+pub fn value_behind<E: Expr>(e: &E) -> Result<Option<u128>, Fault>
     ensures { Answers result
         (go_on (digits_behind (E.tree e.now)) (λ digits. Ok (wide_number 10 digits))) }
 {
@@ -167,8 +169,9 @@ fn value_behind<E: Expr>(e: &E) -> Result<Option<u128>, Fault>
     }
 }
 
-// The number that a numeral spells.
-fn numeral_of<E: Expr>(e: &E) -> Result<u128, Fault>
+/// The number that a numeral spells, which is below `2^127`. Errors are `BadForm` at another expression,
+/// and `TermLimit` at a greater numeral.
+pub fn numeral_of<E: Expr>(e: &E) -> Result<u128, Fault>
     ensures read { Answers result (numeral_at (E.tree e.now)) }
     ensures small { IfOk result (λ n. n < 2 ^ 127) }
 {

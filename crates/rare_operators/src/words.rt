@@ -2,7 +2,7 @@
 ghost use Rattle.std.specs.Prelude.{◌≡◌, IfSome};
 ghost use Rattle.rare_scope.specs.Entries.{entry};
 ghost use Rattle.rare_operators.specs.OperatorWords.{indexed_words, operator_of_word};
-ghost use Rattle.rare_operators.specs.inner.Plain.{IsPlain, IsPlainUse};
+ghost use Rattle.rare_operators.specs.Plain.{IsPlain, IsPlainUse};
 
 use rare_scope::entry_at;
 use rare_term::Head;

@@ -8,11 +8,10 @@ use Rattle.rare_sort.specs.declared.declarations.Declarations.{Declarations}
 use Rattle.rare_sort.specs.declared.head.Head.TheVariants.{True}
 use Rattle.rare_sort.specs.declared.tree.Tree.{Tree}
 use Rattle.rare_sexpr.specs.declared.tree.Sexpr.{Sexpr}
-use Rattle.rare_term.specs.State.{State}
+use Rattle.rare_term.specs.State.{State, Grows}
 use Rattle.rare_scope.specs.declared.meaning.Meaning.{Meaning}
 use Rattle.rare_scope.specs.declared.meaning.Meaning.TheVariants as meaning
 use Rattle.rare_scope.specs.Names.{Held, a_term, names_of, meant, IsMeant, AreMeant}
-use Rattle.rare_operators.specs.TermAnswers.{Grows}
 use Rattle.rare_term_text.specs.TermText.{term_at}
 
 pub tree_kept : (old new : List Tree) (i : ℕ) → Extends old new → i < length old → tree_at new i ≡ tree_at old i

@@ -8,8 +8,7 @@ use Rattle.rare_sort.specs.declared.declarations.Declarations.{Declarations}
 use Rattle.rare_sort.specs.declared.tree.Tree.{Tree}
 use Rattle.rare_scope.specs.Entries.{entry}
 use Rattle.rare_scope.specs.Names.{Names}
-use Rattle.rare_scope.specs.Reading.{Read, refused, go_on, is_symbol_kind}
-use Rattle.rare_text.specs.CommandParts.{symbol_at}
+use Rattle.rare_scope.specs.Reading.{Read, refused, go_on, is_symbol_kind, symbol_at}
 use Rattle.rare_proof.specs.Steps.{equation}
 use Rattle.rare_proof.specs.declared.step.StepRule.{StepRule}
 use Rattle.rare_proof_text.specs.ProofText.{definition_command, conclusion_command, step_command, sides_at, rule_behind, premises_by, proof_words, proof_command_or, proof_command_of, proof_command}

@@ -1,6 +1,6 @@
 -- The proof that a text gives, over the declarations and the names of a problem (the form of commands is after the proof format
 -- Alethe). Commands come in order, their forms are read from the left, and the first fault is the answer.
-use Rattle.std.specs.Prelude.{ℕ, nat_eq, Bool, true, false, ◌&&◌, List, [], ◌∷◌, ◌++◌, codes, bytes_eq, Option, Some, None, Result, Ok, Err, if◌then◌else◌}
+use Rattle.std.specs.Prelude.{ℕ, nat_eq, Bool, false, List, [], ◌∷◌, ◌++◌, codes, Option, Some, None, Ok, Err, if◌then◌else◌}
 use Rattle.rare_base.specs.Answers.{Refusal}
 use Rattle.rare_base.specs.declared.answers.Reason.TheVariants as reason
 use Rattle.rare_sexpr.specs.Readings.{commands_of}
@@ -9,14 +9,14 @@ use Rattle.rare_sexpr.specs.Tree.{items_of, kind_of, text_of}
 use Rattle.rare_sort.specs.declared.declarations.Declarations.{Declarations}
 use Rattle.rare_sort.specs.declared.tree.Tree.{Tree}
 use Rattle.rare_scope.specs.Entries.{entry}
-use Rattle.rare_scope.specs.Names.{Names, a_term}
-use Rattle.rare_scope.specs.Reading.{Read, refused, go_on, is_keyword_kind, is_list_kind, is_symbol_kind, is_word}
+use Rattle.rare_scope.specs.Names.{Names}
+use Rattle.rare_scope.specs.Reading.{Read, refused, go_on, is_keyword_word, is_list_kind, is_symbol_kind, is_word, symbol_at}
 use Rattle.rare_scope.specs.Reserved.{is_reserved}
 use Rattle.rare_term_text.specs.TermText.{term_at}
 use Rattle.rare_text.specs.ProblemText.{defined_term, sides_of_one_sort}
-use Rattle.rare_text.specs.CommandParts.{symbol_at, is_taken}
+use Rattle.rare_text.specs.CommandParts.{is_taken}
 use Rattle.rare_text.specs.Problems.{StatedProblem}
-use Rattle.rare_proof.specs.Steps.{Equation, equation}
+use Rattle.rare_proof.specs.Steps.{equation}
 use Rattle.rare_proof.specs.declared.step.StepRule.{StepRule}
 use Rattle.rare_proof.specs.declared.step.StepRule.TheVariants.{Refl, Cong, Trans, Evaluate}
 use Rattle.rare_proof_text.specs.declared.words.ProofWord.{ProofWord}
@@ -56,9 +56,6 @@ equation_by d names e items = refused e reason.BadForm
 abbrev pub clause_by : Declarations → Names → Sexpr → List Sexpr → Read (Tree × Tree)
 clause_by d names e (c ∷ q ∷ []) = if is_word (codes "cl") c then equation_by d names q (items_of q) else refused c reason.BadForm
 clause_by d names e items = refused e reason.BadForm
-
-abbrev pub is_keyword_word : List ℕ → Sexpr → Bool
-is_keyword_word word e = is_keyword_kind (kind_of e) && bytes_eq (text_of e) word
 
 abbrev pub rule_words : List (List ℕ × StepRule)
 rule_words = (codes "refl", Refl) ∷ (codes "cong", Cong) ∷ (codes "trans", Trans) ∷ (codes "evaluate", Evaluate) ∷ []

@@ -1,9 +1,11 @@
 //! Definitions of names, read from the items of their commands.
-ghost use Rattle.rare_operators.specs.TermAnswers.{AnswersTerm, Grows};
+ghost use Rattle.rare_term.specs.State.{Grows};
+ghost use Rattle.rare_operators.specs.TermAnswers.{AnswersTerm};
 ghost use Rattle.rare_proof_text.specs.Commands.{AnswersCommand, CommandHasIds, DefinesNew};
 ghost use Rattle.rare_proof_text.specs.ProofText.{begins_at_sign, definition_command, definition_name, free_definition_name};
 ghost use Rattle.rare_proof_text.specs.declared.words.ProofWord.TheVariants as word;
-ghost use Rattle.rare_proof_text.specs.inner.Parts.{AnswersBytes, behind_word};
+ghost use Rattle.rare_proof_text.specs.inner.Parts.{behind_word};
+ghost use Rattle.rare_scope.specs.Answers.{AnswersBytes};
 ghost use Rattle.rare_scope.specs.Names.{AreMeant, is_declared, names_of};
 ghost use Rattle.rare_sexpr.specs.Tree.{items_of};
 ghost use Rattle.rare_sort.specs.declared.sort.Sort.{Sort};
@@ -14,9 +16,8 @@ ghost use Rattle.rare_text.specs.CommandParts.{is_empty_list};
 ghost use Rattle.std.specs.Prelude.{◌≡◌, ◌<◌, List, false, IfOk, length};
 
 use crate::command::ReadCommand;
-use crate::parts::symbol_of;
 use rare_base::{Fault, Reason};
-use rare_scope::{Scope, is_list, is_reserved_name, read_sort, refusal_at};
+use rare_scope::{Scope, is_list, is_reserved_name, read_sort, read_symbol, refusal_at};
 use rare_sexpr::Expr;
 use rare_sort::is_same_sort;
 use rare_term::{Sort, TermId, Terms};
@@ -52,7 +53,7 @@ fn new_name<'e, E: Expr>(e: &'e E, scope: &Scope) -> Result<&'e [u8], Fault>
         (definition_name (names_of ts scope.now) (E.tree e.now)) }
     ensures new { IfOk result (λ free. is_declared scope.now free.now ≡ false) }
 {
-    let name = symbol_of(e)?;
+    let name = read_symbol(e)?;
     free_name(e, name, scope)
 }
 

@@ -1,33 +1,15 @@
-//! The parts of commands that are no terms: symbols, rules and lists of ids.
+//! The parts of commands that are no terms: rules and lists of ids.
 ghost use Rattle.std.specs.Prelude.{◌≡◌, [], ◌∷◌, IfErr, Ok, OnOk};
 ghost use Rattle.rare_proof_text.specs.Commands.{texts_in};
-ghost use Rattle.rare_proof_text.specs.ProofText.{ids_at, is_keyword_word, premises_by, rule_at, rule_behind};
-ghost use Rattle.rare_proof_text.specs.inner.Parts.{AnswersBytes, AnswersPremises};
+ghost use Rattle.rare_proof_text.specs.ProofText.{ids_at, premises_by, rule_at, rule_behind};
+ghost use Rattle.rare_proof_text.specs.inner.Parts.{AnswersPremises};
 ghost use Rattle.rare_scope.specs.Answers.{Answers, Fails};
-ghost use Rattle.rare_text.specs.CommandParts.{symbol_at};
 
 use crate::words::rule_of;
 use rare_base::{Fault, Reason};
 use rare_proof::StepRule;
-use rare_scope::{is_keyword, is_list, is_symbol, refusal_at};
+use rare_scope::{is_keyword_at, is_list, is_symbol, refusal_at};
 use rare_sexpr::Expr;
-
-/// The bytes of a symbol.
-pub(crate) fn symbol_of<E: Expr>(e: &E) -> Result<&[u8], Fault>
-    ensures { AnswersBytes result (symbol_at (E.tree e.now)) }
-{
-    if is_symbol(e) {
-        Ok(e.text())
-    } else {
-        Err(refusal_at(e, Reason::BadForm))
-    }
-}
-
-fn is_keyword_at<E: Expr>(e: &E, word: &str) -> bool
-    ensures { result ≡ is_keyword_word word.now (E.tree e.now) }
-{
-    is_keyword(e) && e.text() == word.as_bytes()
-}
 
 // The rule that a symbol names.
 fn rule_of_word<E: Expr>(e: &E) -> Result<StepRule, Fault>

@@ -1,5 +1,5 @@
 //! Commands of proofs, read from expressions.
-ghost use Rattle.rare_operators.specs.TermAnswers.{Grows};
+ghost use Rattle.rare_term.specs.State.{Grows};
 ghost use Rattle.rare_proof_text.specs.Commands.{AnswersCommand, CommandHasIds, DefinesNew};
 ghost use Rattle.rare_proof_text.specs.ProofText.{conclusion_command, proof_command};
 ghost use Rattle.rare_proof_text.specs.declared.words.ProofWord.TheVariants as word;
@@ -12,11 +12,10 @@ ghost use Rattle.std.specs.Prelude.{ℕ, List, IfOk, length};
 
 use crate::command::ReadCommand;
 use crate::definition::read_definition;
-use crate::parts::symbol_of;
 use crate::step::read_step;
 use crate::words::{ProofWord, word_of};
 use rare_base::{Fault, Reason};
-use rare_scope::{Scope, is_symbol, refusal_at};
+use rare_scope::{Scope, is_symbol, read_symbol, refusal_at};
 use rare_sexpr::Expr;
 use rare_term::Terms;
 use std::alloc::Global;
@@ -27,8 +26,8 @@ fn read_names<'e, E: Expr>(name: &'e E, id: &'e E) -> Result<ReadCommand<'e, E>,
     ensures ids { (n : ℕ) → IfOk result (CommandHasIds n) }
     ensures new { (held : Held) → IfOk result (DefinesNew held) }
 {
-    let name = symbol_of(name)?;
-    let id = symbol_of(id)?;
+    let name = read_symbol(name)?;
+    let id = read_symbol(id)?;
     Ok(ReadCommand::Conclude { name, id })
 }
 

@@ -1,5 +1,5 @@
 //! The sides of the equation that a step concludes.
-ghost use Rattle.rare_operators.specs.TermAnswers.{Grows};
+ghost use Rattle.rare_term.specs.State.{Grows};
 ghost use Rattle.rare_proof.specs.Sided.{AreSides};
 ghost use Rattle.rare_proof_text.specs.ProofText.{clause_by, equation_by, sides_at};
 ghost use Rattle.rare_proof_text.specs.inner.Parts.{AnswersSides, pair_at};

@@ -1,5 +1,5 @@
 //! Steps, read from the items of their commands.
-ghost use Rattle.rare_operators.specs.TermAnswers.{Grows};
+ghost use Rattle.rare_term.specs.State.{Grows};
 ghost use Rattle.rare_proof.specs.Sided.{AreSides};
 ghost use Rattle.rare_proof_text.specs.ProofText.{step_command};
 ghost use Rattle.rare_proof_text.specs.declared.words.ProofWord.TheVariants as word;
@@ -10,10 +10,10 @@ ghost use Rattle.rare_sexpr.specs.Tree.{items_of};
 ghost use Rattle.std.specs.Prelude.{◌≡◌, ◌≤◌, [], IfOk, length};
 
 use crate::command::ReadStep;
-use crate::parts::{fault_behind_premises, premises_behind, rule_behind_keyword, symbol_of};
+use crate::parts::{fault_behind_premises, premises_behind, rule_behind_keyword};
 use crate::sides::read_sides;
 use rare_base::{Fault, Reason};
-use rare_scope::{Scope, refusal_at};
+use rare_scope::{Scope, read_symbol, refusal_at};
 use rare_sexpr::Expr;
 use rare_term::Terms;
 use std::alloc::Global;
@@ -38,7 +38,7 @@ fn read_parts<'e, E: Expr, T: Terms>(
     ensures ids { IfOk result (λ s. AreSides (length (T.state terms.new).trees) s.sides) }
     ensures grows { Grows (T.state terms.old) (T.state terms.new) }
 {
-    let id = symbol_of(id)?;
+    let id = read_symbol(id)?;
     let sides = read_sides(alloc, e, clause, scope, terms)?;
     let rule = rule_behind_keyword(keyword, rule)?;
     Ok(ReadStep {

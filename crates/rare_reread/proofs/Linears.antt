@@ -1,6 +1,6 @@
 -- Numbers, parts and sums, read.
 use Rattle.std.proofs.Common.{◌≡◌, ◌≢◌, ℕ, zero, suc, ◌+◌, ◌-◌, ◌<◌, ◌≤◌, Bool, true, false, List, [], ◌∷◌, ◌++◌, map, drop, length, Some, None, Ok, refl, sym, ap, ◌∙◌, subst, arith, FitsSigned, if◌then◌else◌}
-use Rattle.std.specs.Prelude.{ℤ, pos, negsuc, ◌*ℤ◌, codes, nat_eq}
+use Rattle.std.specs.Prelude.{ℤ, pos, negsuc, ◌*ℤ◌, ◌&&◌, codes, is_some, nat_eq}
 use Rattle.std.specs.Int.{w128}
 use Rattle.std.specs.Fmt.{decimal, digits}
 use Rattle.std.proofs.lemmas.Bool.{eqb-true, eqb-false}
@@ -20,7 +20,7 @@ use Rattle.rare_scope.specs.declared.sign.Sign.TheVariants as sign
 use Rattle.rare_scope.specs.Entries.{entry}
 use Rattle.rare_scope.specs.Numbers.{LARGEST_SMALL, small_number}
 use Rattle.rare_scope.specs.Reading.{refused, go_on, is_symbol_kind, is_list_kind}
-use Rattle.rare_scope.specs.LinearText.{WidthNames, signs, may_have, form_by, form_of, numeral, width_named, fitting, joined, folded, from_first, operands, linear_by, linear_at}
+use Rattle.rare_scope.specs.LinearText.{begins_size, WidthNames, signs, may_have, form_by, form_of, numeral, width_named, fitting, joined, folded, from_first, operands, linear_by, linear_at}
 use Rattle.rare_scope.specs.Printing.{negation_text, number_text}
 use Rattle.rare_scope.proofs.LinearSteps.{atom_read, list_read, pair}
 use Rattle.rare_reread.specs.ReadsAs.{ReadsAs, RunsAs, IsListOf}
@@ -98,7 +98,7 @@ module _ (w : WidthNames) (plain : w.size ≡ None) where
       go [] g list = absurd g
       go (x ∷ xs) g list =
           let items : items_of e ≡ i.first ∷ x ∷ xs = ap items_of list ∙ list_items i.place (i.first ∷ x ∷ xs) in
-          list_read w plain e (ap is_list_kind (ap kind_of list ∙ list_kind i.place (i.first ∷ x ∷ xs)))
+          list_read w e (ap (λ size. is_some size && begins_size (items_of e)) plain) (ap is_list_kind (ap kind_of list ∙ list_kind i.place (i.first ∷ x ∷ xs)))
           ∙ ap (λ ys. go_on (form_of e ys) (λ s. operands e s (map (pair w) (drop 1 ys)))) items
           ∙ ap (λ r. go_on r (λ s. operands e s (map (pair w) (x ∷ xs)))) (form e i.first x xs word s i.is is (ap (may_have s) (sym (count ls xs g.1)) ∙ may))
           ∙ ap (λ r. go_on r (λ l. from_first e s l (map (pair w) xs))) g.0

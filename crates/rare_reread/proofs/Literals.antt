@@ -28,7 +28,7 @@ use Rattle.rare_term.specs.declared.literals.Operator.{Operator}
 use Rattle.rare_scope.specs.LinearText.{linear_at, widths_held}
 use Rattle.rare_scope.specs.Names.{Held, a_term, found, names_of, width_names}
 use Rattle.rare_scope.specs.Numbers.{LARGEST_SMALL, LARGEST_WIDE}
-use Rattle.rare_scope.specs.Printing.{linear_text}
+use Rattle.rare_scope.specs.Printing.{linear_text, name_text}
 use Rattle.rare_scope.specs.Reading.{go_on, is_word, is_list_kind}
 use Rattle.rare_scope.proofs.PrintingSteps.{number_only}
 use Rattle.rare_scope.proofs.SortSteps.{same_widths}
@@ -99,7 +99,7 @@ reduced_below v k is =
 
 module _ (held : Held) (r : IsReadable held) (d : Declarations) (ts : List Tree) where
   number_bytes : (k : ℕ) → decimal k ≡ linear_text (width_names held) (number (pos k))
-  number_bytes k = sym (append-nil (decimal k)) ∙ number_only (width_names held) (number (pos k)) refl
+  number_bytes k = sym (append-nil (decimal k)) ∙ number_only (name_text (width_names held)) (number (pos k)) refl
 
   number_given : (v k : ℕ) → v ≤ LARGEST_WIDE → k ≤ LARGEST_SMALL → 0 < k → Fits held r d ts (head.Bits v) (number (pos k) ∷ []) [] →
       ReadsAs 5 (operator_text held (head.Bits v) (number (pos k) ∷ [])) (Is held r d ts (node (head.Bits v) (number (pos k) ∷ []) []))

@@ -133,25 +133,25 @@ module _ (held : Held) (r : IsReadable held) where
   spaced_text part parts more = ap (λ t. 32 ∷ t) (sym (append_assoc part parts more))
 
   parts_run : (low : ℕ) (ps : List Part) (more : List ℕ) (ls : List LinearExpression) → RisesFrom low ps → NamesBelow (length (width_names held)) ps → AllFit ps → RunsAs 3 more (Are ls) →
-      RunsAs 3 (flat_map (spaced_part (width_names held)) ps ++ more) (Are (map of_part ps ++ ls))
+      RunsAs 3 (flat_map (spaced_part (name_text (width_names held))) ps ++ more) (Are (map of_part ps ++ ls))
   parts_run low [] more ls rises below fit run = run
   parts_run low (p ∷ ps) more ls rises below fit run =
       let all = map of_part (p ∷ ps) ++ ls in
-      so_runs 3 3 (32 ∷ (part_text (width_names held) p ++ (flat_map (spaced_part (width_names held)) ps ++ more))) (flat_map (spaced_part (width_names held)) (p ∷ ps) ++ more) (Are all) (Are all) (omega arith)
-      (spaced_text (part_text (width_names held) p) (flat_map (spaced_part (width_names held)) ps) more) (λ es g. g)
-      (more_gives (widths_held held) refl 3 (part_text (width_names held) p) (flat_map (spaced_part (width_names held)) ps ++ more) (of_part p) (map of_part ps ++ ls) (part_reads p below.0 fit.0 rises.1)
+      so_runs 3 3 (32 ∷ (part_text (width_names held) p ++ (flat_map (spaced_part (name_text (width_names held))) ps ++ more))) (flat_map (spaced_part (name_text (width_names held))) (p ∷ ps) ++ more) (Are all) (Are all) (omega arith)
+      (spaced_text (part_text (width_names held) p) (flat_map (spaced_part (name_text (width_names held))) ps) more) (λ es g. g)
+      (more_gives (widths_held held) refl 3 (part_text (width_names held) p) (flat_map (spaced_part (name_text (width_names held))) ps ++ more) (of_part p) (map of_part ps ++ ls) (part_reads p below.0 fit.0 rises.1)
       (parts_run (p.0 + 1) ps more ls rises.2 below.1 fit.1 run))
 
   abbrev whole : List Part → ℤ → List ℕ
-  whole ps c = whole_sum (width_names held) (linear c ps)
+  whole ps c = whole_sum (name_text (width_names held)) (linear c ps)
 
   sum_of_two : (p q : Part) (ps : List Part) → RisesFrom 0 (p ∷ q ∷ ps) → NamesBelow (length (width_names held)) (p ∷ q ∷ ps) → AllFit (p ∷ q ∷ ps) → ReadsAs 4 (whole (p ∷ q ∷ ps) (pos 0)) (Is (linear (pos 0) (p ∷ q ∷ ps)))
   sum_of_two p q ps rises below fit =
       let all = p ∷ q ∷ ps in
-      let run : RunsAs 3 (flat_map (spaced_part (width_names held)) all ++ []) (Are (map of_part all ++ [])) = parts_run 0 all [] [] rises below fit (none_gives (widths_held held) refl 3) in
-      so_reads 4 4 (40 ∷ 43 ∷ ((flat_map (spaced_part (width_names held)) all ++ []) ++ 41 ∷ [])) (whole all (pos 0)) (Is (linear (pos 0) all)) (Is (linear (pos 0) all)) (omega arith)
-      (ap (λ t. 40 ∷ 43 ∷ (t ++ 41 ∷ [])) (append-nil (flat_map (spaced_part (width_names held)) all))) (λ e g. g)
-      (sign_reads (widths_held held) refl 3 (codes "+") (flat_map (spaced_part (width_names held)) all ++ []) sign.Plus (of_part p) (map of_part (q ∷ ps) ++ []) (linear (pos 0) all) refl refl (some (length (map of_part ps ++ [])))
+      let run : RunsAs 3 (flat_map (spaced_part (name_text (width_names held))) all ++ []) (Are (map of_part all ++ [])) = parts_run 0 all [] [] rises below fit (none_gives (widths_held held) refl 3) in
+      so_reads 4 4 (40 ∷ 43 ∷ ((flat_map (spaced_part (name_text (width_names held))) all ++ []) ++ 41 ∷ [])) (whole all (pos 0)) (Is (linear (pos 0) all)) (Is (linear (pos 0) all)) (omega arith)
+      (ap (λ t. 40 ∷ 43 ∷ (t ++ 41 ∷ [])) (append-nil (flat_map (spaced_part (name_text (width_names held))) all))) (λ e g. g)
+      (sign_reads (widths_held held) refl 3 (codes "+") (flat_map (spaced_part (name_text (width_names held))) all ++ []) sign.Plus (of_part p) (map of_part (q ∷ ps) ++ []) (linear (pos 0) all) refl refl (some (length (map of_part ps ++ [])))
       (λ e xs g. some_left (widths_held held) refl e sign.Plus (of_part p) (of_part q) (map of_part ps ++ []) xs g
       ∙ parts_add (widths_held held) refl e (p ∷ []) (q ∷ ps) [] (linear (pos 0) all) xs rises fit (λ ys gs. nothing_left (widths_held held) refl e (linear (pos 0) all) ys gs) g) run)
 
@@ -173,7 +173,7 @@ module _ (held : Held) (r : IsReadable held) where
   sum_with_constant : (p : Part) (ps : List Part) (c : ℤ) → int_eq c (pos 0) ≡ false → IsNormal (p ∷ ps) → NamesBelow (length (width_names held)) (p ∷ ps) → IsWithin (linear c (p ∷ ps)) → ReadsAs 4 (whole (p ∷ ps) c) (Is (linear c (p ∷ ps)))
   sum_with_constant p ps c other rises below within =
       let all = p ∷ ps in
-      let parts = flat_map (spaced_part (width_names held)) all in
+      let parts = flat_map (spaced_part (name_text (width_names held))) all in
       let more : List ℕ = 32 ∷ (number_text c ++ []) in
       let constant : RunsAs 3 (32 ∷ (number_text c ++ [])) (Are (number c ∷ [])) =
       more_gives (widths_held held) refl 3 (number_text c) [] (number c) [] (so_reads 2 3 (number_text c) (number_text c) (Is (number c)) (Is (number c)) (omega arith) refl (λ e g. g) (number_reads (widths_held held) refl c within.constant)) (none_gives (widths_held held) refl 3) in
@@ -193,15 +193,15 @@ module _ (held : Held) (r : IsReadable held) where
   by_text n text l le same h = so_reads n 4 text (linear_text (width_names held) l) (Is l) (Is l) le same (λ e g. g) h
 
   reads_by : (ps : List Part) (c : ℤ) (b : Bool) → int_eq c (pos 0) ≡ b → IsNormal ps → NamesBelow (length (width_names held)) ps → IsWithin (linear c ps) → IsRead (linear c ps)
-  reads_by [] c b is normal below within = by_text 2 (number_text c) (number c) (omega arith) (sym (append-nil (number_text c)) ∙ number_only (width_names held) (number c) refl) (number_reads (widths_held held) refl c within.constant)
+  reads_by [] c b is normal below within = by_text 2 (number_text c) (number c) (omega arith) (sym (append-nil (number_text c)) ∙ number_only (name_text (width_names held)) (number c) refl) (number_reads (widths_held held) refl c within.constant)
   reads_by (p ∷ []) c true is normal below within =
       subst (λ (k : ℤ). IsRead (linear k (p ∷ []))) (sym ((Decides-int_eq c (pos 0)).0 is))
-      (by_text 3 (part_text (width_names held) p) (linear (pos 0) (p ∷ [])) (omega arith) (sym (part_alone (width_names held) p)) (part_reads p below.0 within.coefficients.0 normal.1))
+      (by_text 3 (part_text (width_names held) p) (linear (pos 0) (p ∷ [])) (omega arith) (sym (part_alone (name_text (width_names held)) p)) (part_reads p below.0 within.coefficients.0 normal.1))
   reads_by (p ∷ q ∷ ps) c true is normal below within =
       subst (λ (k : ℤ). IsRead (linear k (p ∷ q ∷ ps))) (sym ((Decides-int_eq c (pos 0)).0 is))
-      (by_text 4 (whole (p ∷ q ∷ ps) (pos 0)) (linear (pos 0) (p ∷ q ∷ ps)) (omega arith) (sym (sum_long (width_names held) (linear (pos 0) (p ∷ q ∷ ps)) (omega arith))) (sum_of_two p q ps normal below within.coefficients))
+      (by_text 4 (whole (p ∷ q ∷ ps) (pos 0)) (linear (pos 0) (p ∷ q ∷ ps)) (omega arith) (sym (sum_long (name_text (width_names held)) (linear (pos 0) (p ∷ q ∷ ps)) (omega arith))) (sum_of_two p q ps normal below within.coefficients))
   reads_by (p ∷ ps) c false is normal below within =
-      by_text 4 (whole (p ∷ ps) c) (linear c (p ∷ ps)) (omega arith) (sym (sum_constant (width_names held) (linear c (p ∷ ps)) (λ none. absurd (omega (arith, none))) is)) (sum_with_constant p ps c is normal below within)
+      by_text 4 (whole (p ∷ ps) c) (linear c (p ∷ ps)) (omega arith) (sym (sum_constant (name_text (width_names held)) (linear c (p ∷ ps)) (λ none. absurd (omega (arith, none))) is)) (sum_with_constant p ps c is normal below within)
 
 pub linear_reads : (held : Held) (l : LinearExpression) → IsReadable held → IsKeptLinear l → NamesBelow (length (width_names held)) l.parts → ReadsAs 4 (linear_text (width_names held) l) (λ e. linear_at (widths_held held) e ≡ Ok l)
 linear_reads held l r kept below = reads_by held r l.parts l.constant (int_eq l.constant (pos 0)) refl kept.normal below kept.within

@@ -1,10 +1,9 @@
 //! Terms that are read from texts and written again, one part of them shared.
 ghost use Rattle.std.specs.Prelude.{◌≡◌, ◌<◌, ◌++◌, ◌∷◌, [], length, IfOk, IfSome, OnOk};
-ghost use Rattle.rare_operators.specs.TermAnswers.{Grows};
 ghost use Rattle.rare_sort.specs.Ids.{AreIds};
 ghost use Rattle.rare_scope.specs.Names.{AreMeant, IsMeant, IsNext, symbol_names, width_names};
 ghost use Rattle.rare_sort.specs.DeclaredSorts.{widths};
-ghost use Rattle.rare_term.specs.State.{no_terms};
+ghost use Rattle.rare_term.specs.State.{no_terms, Grows};
 ghost use Rattle.rare_reread.specs.inner.Ready.{AreReady, IsDeclared};
 
 use rare_base::Text;

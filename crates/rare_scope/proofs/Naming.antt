@@ -1,5 +1,5 @@
 -- The names of what a linear expression reads as.
-use Rattle.std.proofs.Common.{◌≡◌, ℕ, ◌<◌, Bool, true, false, List, [], ◌∷◌, Option, Some, None, IfSome, drop, Result, Ok, Err, IfOk, refl, sym, ap, ◌∙◌, subst}
+use Rattle.std.proofs.Common.{◌≡◌, ℕ, ◌<◌, Bool, true, false, List, [], ◌∷◌, Option, Some, None, IfSome, drop, Result, Ok, Err, IfOk, subst}
 use Rattle.std.specs.Prelude.{ℤ, pos, negsuc, if◌then◌else◌}
 use Rattle.rare_base.specs.declared.answers.Fault.{Fault}
 use Rattle.rare_scope.specs.Answers.{Answers}
@@ -12,12 +12,12 @@ use Rattle.rare_linear.proofs.Names.{NamesBelow-add, NamesBelow-scale}
 use Rattle.rare_sexpr.specs.declared.tree.Kind.{Kind}
 use Rattle.rare_sexpr.specs.declared.tree.Kind.TheVariants as kind
 use Rattle.rare_sexpr.specs.declared.tree.Sexpr.{Sexpr, Atom, List', Row_of-Sexpr, end_of-Sexpr, more_of-Sexpr}
-use Rattle.rare_sexpr.specs.Tree.{go_down, go_along, kind_of, text_of}
+use Rattle.rare_sexpr.specs.Tree.{go_along, items_of, kind_of, text_of}
 use Rattle.rare_sort.specs.SortRules.{number_in}
 use Rattle.rare_scope.specs.declared.sign.Sign.{Sign}
 use Rattle.rare_scope.specs.declared.sign.Sign.TheVariants as sign
-use Rattle.rare_scope.specs.Reading.{Read, refused, go_on}
-use Rattle.rare_scope.specs.LinearText.{WidthNames, AreBelow, AllNamed, Items, fitting, joined, times_by, folded, from_first, operands, numeral, width_named, sized, linear_form, linear_by, linear_at}
+use Rattle.rare_scope.specs.Reading.{Read, refused, go_on, is_symbol_kind}
+use Rattle.rare_scope.specs.LinearText.{WidthNames, AreBelow, AllNamed, Items, fitting, joined, times_by, folded, from_first, operands, numeral, width_named, size_named, size_of, sized, begins_size, SizesBelow, linear_form, linear_by, linear_at}
 use Rattle.rare_scope.specs.Numbers.{small_number}
 
 pub fitting_is : (e : Sexpr) (l r : LinearExpression) → fitting e l ≡ Ok r → l ≡ r
@@ -79,11 +79,30 @@ module _ (w : WidthNames) (n : ℕ) (below : AreBelow n w) where
   width_fine e (Some k) h r is = subst (λ (x : LinearExpression). NamesBelow n x.parts) (same_Ok (linear (pos 0) ((k, pos 1) ∷ [])) r is) (h, tt)
   width_fine e None h r is = absurd cc
 
+  size_fine : (x : Sexpr) (b : Bool) (o : Option LinearExpression) → IfSome o (λ l. NamesBelow n l.parts) → IsNamed (size_named x b o)
+  size_fine x true (Some l) h r is = subst (λ (x : LinearExpression). NamesBelow n x.parts) (same_Ok l r is) h
+  size_fine x true None h r is = absurd cc
+  size_fine x false o h r is = absurd cc
+
+  sizes_fine : (size : List ℕ → Option LinearExpression) (e : Sexpr) (xs : List Sexpr) → SizesBelow n (Some size) → IsNamed (size_of size e xs)
+  sizes_fine size e [] h r is = absurd cc
+  sizes_fine size e (a ∷ []) h r is = absurd cc
+  sizes_fine size e (a ∷ x ∷ []) h r is = size_fine x (is_symbol_kind (kind_of x)) (size (text_of x)) (h (text_of x)) r is
+  sizes_fine size e (a ∷ x ∷ y ∷ xs) h r is = absurd cc
+
+  sized_fine : (size : Option (List ℕ → Option LinearExpression)) (e : Sexpr) (other : Read LinearExpression) → SizesBelow n size → IsNamed other → IsNamed (sized size e other)
+  sized_fine None e other h fine r is = fine r is
+  sized_fine (Some size) e other h fine r is = go (begins_size (items_of e)) is
+    where
+      go : (b : Bool) → (if b then size_of size e (items_of e) else other) ≡ Ok r → NamesBelow n r.parts
+      go true is = sizes_fine size e (items_of e) h r is
+      go false is = fine r is
+
   by_kind : (e : Sexpr) (k : Kind) (items : Items) → AreNamed items → IsNamed (linear_by w e k items)
   by_kind e kind.Numeral items all r is = numeral_named e (small_number (text_of e)) r is
   by_kind e kind.Symbol items all r is = width_fine e (w.number (text_of e)) (below.numbers (text_of e)) r is
   by_kind e kind.List items all r is =
-      list_named e items all r (ap (λ size. sized size e (go_on (linear_form e) (λ s. operands e s (drop 1 items)))) (sym below.sizes) ∙ is)
+      sized_fine w.size e (go_on (linear_form e) (λ s. operands e s (drop 1 items))) below.sizes (list_named e items all) r is
   by_kind e k items all r is = absurd cc
 
   mutual

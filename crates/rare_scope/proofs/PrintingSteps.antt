@@ -14,22 +14,22 @@ use Rattle.rare_sort.specs.declared.sort.Sort.TheFolds.{fold-roll-Sort}
 use Rattle.rare_sort.proofs.NeedsLemmas.{names_of}
 use denote.Hole.Carrier
 use Rattle.rare_scope.specs.Names.{Held, sort_names, width_names}
-use Rattle.rare_scope.specs.Printing.{joined_texts, bit_vectors_text, arrays_text, sort_text_step, sort_text, is_named_step, is_named, number_text, name_text, part_text, sum_text, constant_texts, linear_text}
+use Rattle.rare_scope.specs.Printing.{joined_texts, bit_vectors_text, arrays_text, sort_text_step, sort_text, is_named_step, is_named, number_text, name_text, part_text_by, sum_text, constant_texts, linear_text_by}
 use Rattle.rare_scope.specs.inner.Pieces.{spaced_part, end_text, whole_sum}
 
 abbrev spaced : List ℕ → List ℕ
 spaced t = codes " " ++ t
 
-module _ (names : List (List ℕ)) where
+module _ (text : ℕ → List ℕ) where
   -- a number alone
-  pub number_alone : (c : ℤ) → linear_text names (linear c []) ≡ number_text c ++ []
+  pub number_alone : (c : ℤ) → linear_text_by text (linear c []) ≡ number_text c ++ []
   number_alone c = go (int_eq c (pos 0)) ∙ sym (append-nil (number_text c))
     where
       go : (b : Test) → sum_text (if b then (number_text c ∷ []) else (number_text c ∷ [])) ≡ number_text c
       go true = refl
       go false = refl
 
-  pub part_alone : (p : Part) → linear_text names (linear (pos 0) (p ∷ [])) ≡ part_text names p
+  pub part_alone : (p : Part) → linear_text_by text (linear (pos 0) (p ∷ [])) ≡ part_text_by text p
   part_alone p = refl
 
   big : (ts : List (List ℕ)) → 2 ≤ length ts → sum_text ts ≡ codes "(+" ++ (flat_map spaced ts ++ codes ")")
@@ -37,12 +37,12 @@ module _ (names : List (List ℕ)) where
   big (t ∷ []) le = absurd (omega (arith, le))
   big (t ∷ u ∷ ts) le = refl
 
-  mapped : (ps : List Part) → flat_map spaced (map (part_text names) ps) ≡ flat_map (spaced_part names) ps
+  mapped : (ps : List Part) → flat_map spaced (map (part_text_by text) ps) ≡ flat_map (spaced_part text) ps
   mapped [] = refl
-  mapped (p ∷ ps) = ap (λ xs. spaced (part_text names p) ++ xs) (mapped ps)
+  mapped (p ∷ ps) = ap (λ xs. spaced (part_text_by text p) ++ xs) (mapped ps)
 
   abbrev texts : ℤ → List Part → List (List ℕ)
-  texts c ps = map (part_text names) ps ++ constant_texts (linear c ps)
+  texts c ps = map (part_text_by text) ps ++ constant_texts (linear c ps)
 
   ends : (c : ℤ) (p : Part) (ps : List Part) → flat_map spaced (constant_texts (linear c (p ∷ ps))) ++ codes ")" ≡ end_text c
   ends c p ps = go (int_eq c (pos 0))
@@ -51,69 +51,69 @@ module _ (names : List (List ℕ)) where
       go true = refl
       go false = ap (λ xs. 32 ∷ (xs ++ (41 ∷ []))) (append-nil (number_text c))
 
-  whole : (c : ℤ) (p : Part) (ps : List Part) → 2 ≤ length (texts c (p ∷ ps)) → linear_text names (linear c (p ∷ ps)) ≡ whole_sum names (linear c (p ∷ ps))
+  whole : (c : ℤ) (p : Part) (ps : List Part) → 2 ≤ length (texts c (p ∷ ps)) → linear_text_by text (linear c (p ∷ ps)) ≡ whole_sum text (linear c (p ∷ ps))
   whole c p ps le =
       big (texts c (p ∷ ps)) le
-      ∙ ap (λ xs. codes "(+" ++ (xs ++ codes ")")) (flat_map-append spaced (map (part_text names) (p ∷ ps)) (constant_texts (linear c (p ∷ ps))) ∙ ap (λ xs. xs ++ flat_map spaced (constant_texts (linear c (p ∷ ps)))) (mapped (p ∷ ps)))
-      ∙ ap (λ xs. codes "(+" ++ xs) (append_assoc (flat_map (spaced_part names) (p ∷ ps)) (flat_map spaced (constant_texts (linear c (p ∷ ps)))) (codes ")"))
-      ∙ ap (λ xs. codes "(+" ++ (flat_map (spaced_part names) (p ∷ ps) ++ xs)) (ends c p ps)
+      ∙ ap (λ xs. codes "(+" ++ (xs ++ codes ")")) (flat_map-append spaced (map (part_text_by text) (p ∷ ps)) (constant_texts (linear c (p ∷ ps))) ∙ ap (λ xs. xs ++ flat_map spaced (constant_texts (linear c (p ∷ ps)))) (mapped (p ∷ ps)))
+      ∙ ap (λ xs. codes "(+" ++ xs) (append_assoc (flat_map (spaced_part text) (p ∷ ps)) (flat_map spaced (constant_texts (linear c (p ∷ ps)))) (codes ")"))
+      ∙ ap (λ xs. codes "(+" ++ (flat_map (spaced_part text) (p ∷ ps) ++ xs)) (ends c p ps)
 
   long : (c : ℤ) (p : Part) → int_eq c (pos 0) ≡ false → 2 ≤ length (texts c (p ∷ []))
-  long c p other = let e : length (texts c (p ∷ [])) ≡ 2 = ap (λ b. length (part_text names p ∷ (if b then [] else (number_text c ∷ [])))) other in omega (arith, e)
+  long c p other = let e : length (texts c (p ∷ [])) ≡ 2 = ap (λ b. length (part_text_by text p ∷ (if b then [] else (number_text c ∷ [])))) other in omega (arith, e)
 
   -- more than one text
-  pub sum_long : (e : LinearExpression) → 1 < length e.parts → linear_text names e ≡ whole_sum names e
+  pub sum_long : (e : LinearExpression) → 1 < length e.parts → linear_text_by text e ≡ whole_sum text e
   sum_long e more = go e.constant e.parts more
     where
       at_least : (c : ℤ) (p q : Part) (ps : List Part) → 2 ≤ length (texts c (p ∷ q ∷ ps))
       at_least c p q ps = omega arith
 
-      go : (c : ℤ) (ps : List Part) → 1 < length ps → linear_text names (linear c ps) ≡ whole_sum names (linear c ps)
+      go : (c : ℤ) (ps : List Part) → 1 < length ps → linear_text_by text (linear c ps) ≡ whole_sum text (linear c ps)
       go c [] lt = absurd (omega (arith, lt))
       go c (p ∷ []) lt = absurd (omega (arith, lt))
       go c (p ∷ q ∷ ps) lt = whole c p (q ∷ ps) (at_least c p q ps)
 
-  pub sum_constant : (e : LinearExpression) → ¬ (length e.parts ≡ 0) → int_eq e.constant (pos 0) ≡ false → linear_text names e ≡ whole_sum names e
+  pub sum_constant : (e : LinearExpression) → ¬ (length e.parts ≡ 0) → int_eq e.constant (pos 0) ≡ false → linear_text_by text e ≡ whole_sum text e
   sum_constant e some other = go e.constant e.parts some other
     where
       at_least : (c : ℤ) (p q : Part) (ps : List Part) → 2 ≤ length (texts c (p ∷ q ∷ ps))
       at_least c p q ps = omega arith
 
-      go : (c : ℤ) (ps : List Part) → ¬ (length ps ≡ 0) → int_eq c (pos 0) ≡ false → linear_text names (linear c ps) ≡ whole_sum names (linear c ps)
+      go : (c : ℤ) (ps : List Part) → ¬ (length ps ≡ 0) → int_eq c (pos 0) ≡ false → linear_text_by text (linear c ps) ≡ whole_sum text (linear c ps)
       go c [] some other = absurd (some refl)
       go c (p ∷ []) some other = whole c p [] (long c p other)
       go c (p ∷ q ∷ ps) some other = whole c p (q ∷ ps) (at_least c p q ps)
 
-  pub number_only : (e : LinearExpression) → length e.parts ≡ 0 → number_text e.constant ++ [] ≡ linear_text names e
+  pub number_only : (e : LinearExpression) → length e.parts ≡ 0 → number_text e.constant ++ [] ≡ linear_text_by text e
   number_only e none = go e.constant e.parts none
     where
-      go : (c : ℤ) (ps : List Part) → length ps ≡ 0 → number_text c ++ [] ≡ linear_text names (linear c ps)
+      go : (c : ℤ) (ps : List Part) → length ps ≡ 0 → number_text c ++ [] ≡ linear_text_by text (linear c ps)
       go c [] none = sym (number_alone c)
       go c (p ∷ ps) none = absurd (omega (arith, none))
 
-  pub part_only : (e : LinearExpression) (d : Part) → length e.parts ≡ 1 → int_eq e.constant (pos 0) ≡ true → part_text names (slice_index_or e.parts 0 d) ≡ linear_text names e
+  pub part_only : (e : LinearExpression) (d : Part) → length e.parts ≡ 1 → int_eq e.constant (pos 0) ≡ true → part_text_by text (slice_index_or e.parts 0 d) ≡ linear_text_by text e
   part_only e d one zero_constant = go e.constant e.parts one zero_constant
     where
-      go : (c : ℤ) (ps : List Part) → length ps ≡ 1 → int_eq c (pos 0) ≡ true → part_text names (slice_index_or ps 0 d) ≡ linear_text names (linear c ps)
+      go : (c : ℤ) (ps : List Part) → length ps ≡ 1 → int_eq c (pos 0) ≡ true → part_text_by text (slice_index_or ps 0 d) ≡ linear_text_by text (linear c ps)
       go c [] one z = absurd (omega (arith, one))
-      go c (p ∷ []) one z = ap (λ b. sum_text (part_text names p ∷ (if b then [] else (number_text c ∷ [])))) (sym z)
+      go c (p ∷ []) one z = ap (λ b. sum_text (part_text_by text p ∷ (if b then [] else (number_text c ∷ [])))) (sym z)
       go c (p ∷ q ∷ ps) one z = absurd (omega (arith, one))
 
 -- ---- parts
 
-name_of : (names : List (List ℕ)) (k : ℕ) (name : List ℕ) → slice_get names k ≡ Some name → written_symbol name ≡ name_text names k
+pub name_of : (names : List (List ℕ)) (k : ℕ) (name : List ℕ) → slice_get names k ≡ Some name → written_symbol name ≡ name_text names k
 name_of names k name is = ap written_symbol (sym (get_or_from_slice_get names k name [] is))
 
-pub one_part : (names : List (List ℕ)) (lead : List ℕ) (k : ℕ) (c : ℤ) (name : List ℕ) → slice_get names k ≡ Some name → int_eq c (pos 1) ≡ true → lead ++ (written_symbol name ++ []) ≡ lead ++ part_text names (k, c)
-one_part names lead k c name is one =
-    ap (λ xs. lead ++ xs) (append-nil (written_symbol name) ∙ name_of names k name is)
-    ∙ ap (λ b. lead ++ (if b then (name_text names k) else (joined_texts (codes "(* " ∷ number_text c ∷ codes " " ∷ name_text names k ∷ codes ")" ∷ [])))) (sym one)
+pub one_part : (text : ℕ → List ℕ) (lead : List ℕ) (k : ℕ) (c : ℤ) (written : List ℕ) → written ≡ text k → int_eq c (pos 1) ≡ true → lead ++ (written ++ []) ≡ lead ++ part_text_by text (k, c)
+one_part text lead k c written is one =
+    ap (λ xs. lead ++ xs) (append-nil written ∙ is)
+    ∙ ap (λ b. lead ++ (if b then (text k) else (joined_texts (codes "(* " ∷ number_text c ∷ codes " " ∷ text k ∷ codes ")" ∷ [])))) (sym one)
 
-pub other_part : (names : List (List ℕ)) (lead : List ℕ) (k : ℕ) (c : ℤ) (name : List ℕ) → slice_get names k ≡ Some name → int_eq c (pos 1) ≡ false →
-    lead ++ joined_texts (codes "(* " ∷ number_text c ∷ codes " " ∷ written_symbol name ∷ codes ")" ∷ []) ≡ lead ++ part_text names (k, c)
-other_part names lead k c name is other =
-    ap (λ n. lead ++ joined_texts (codes "(* " ∷ number_text c ∷ codes " " ∷ n ∷ codes ")" ∷ [])) (name_of names k name is)
-    ∙ ap (λ b. lead ++ (if b then (name_text names k) else (joined_texts (codes "(* " ∷ number_text c ∷ codes " " ∷ name_text names k ∷ codes ")" ∷ [])))) (sym other)
+pub other_part : (text : ℕ → List ℕ) (lead : List ℕ) (k : ℕ) (c : ℤ) (written : List ℕ) → written ≡ text k → int_eq c (pos 1) ≡ false →
+    lead ++ joined_texts (codes "(* " ∷ number_text c ∷ codes " " ∷ written ∷ codes ")" ∷ []) ≡ lead ++ part_text_by text (k, c)
+other_part text lead k c written is other =
+    ap (λ n. lead ++ joined_texts (codes "(* " ∷ number_text c ∷ codes " " ∷ n ∷ codes ")" ∷ [])) is
+    ∙ ap (λ b. lead ++ (if b then (text k) else (joined_texts (codes "(* " ∷ number_text c ∷ codes " " ∷ text k ∷ codes ")" ∷ [])))) (sym other)
 
 pub part_below : (n : ℕ) (ps : List Part) (i : ℕ) (d : Part) → NamesBelow n ps → i < length ps → (get_or ps i d).0 < n
 part_below n [] i d h lt = absurd (omega (arith, lt))

@@ -171,7 +171,7 @@ numbered_width held (Some (meaning.Term id)) h = tt
 pub numbers_below : (ns : List (List ℕ)) (ms : List Meaning) → length ns ≡ length ms → IsScope (held_by ns ms) → AreBelow (length (width_names (held_by ns ms))) (widths_held (held_by ns ms))
 numbers_below ns ms even scope = record {
   numbers = λ text. numbered_width (held_by ns ms) (found (held_by ns ms) text) (λ m is. found_all (IsNumbered (held_by ns ms)) text (held_by ns ms) None m tt (all_numbered ns ms even scope) is);
-  sizes = refl;
+  sizes = λ text. tt;
 }
 
 -- as many places as names

@@ -94,7 +94,7 @@ found_fine s held text all = go (found held text) (λ m e. found_is s held text 
 
 -- the width names of a scope are below the number of widths
 pub widths_below : (s : State) (held : Held) → AreMeant s held → AreBelow (widths s.declared) (widths_held held)
-widths_below s held all = record { numbers = λ text. number_below s (found held text) (found_fine s held text all); sizes = refl }
+widths_below s held all = record { numbers = λ text. number_below s (found held text) (found_fine s held text all); sizes = λ text. tt }
 
 sort_number_below : (s : State) (m : Option Meaning) (k : ℕ) → IfSome m (IsMeant s) → sort_in m ≡ Some k → k < s.declared.sorts
 sort_number_below s None k h is = absurd (none-some k is)

@@ -8,4 +8,5 @@ pub mod LinearText
 pub mod ConstraintText
 pub mod SortText
 pub mod Printing
+pub mod Pieces
 pub mod inner

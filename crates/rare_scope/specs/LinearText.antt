@@ -1,10 +1,10 @@
 -- The linear expression that an expression spells, over names of widths.
-use Rattle.std.specs.Prelude.{◌≡◌, ◌<◌, IfSome, ℕ, ℤ, pos, negsuc, List, [], ◌∷◌, drop, nat_lt, nat_eq, length, codes, Option, Some, None, Bool, true, false, if◌then◌else◌, Result, Ok, IfOk}
+use Rattle.std.specs.Prelude.{◌<◌, IfSome, ℕ, ℤ, pos, negsuc, List, [], ◌∷◌, drop, nat_lt, nat_eq, length, codes, Option, Some, None, Bool, true, false, if◌then◌else◌, Result, Ok, IfOk}
 use Rattle.rare_base.specs.declared.answers.Reason.TheVariants as reason
 use Rattle.rare_sexpr.specs.declared.tree.Kind.{Kind}
 use Rattle.rare_sexpr.specs.declared.tree.Kind.TheVariants as kind
 use Rattle.rare_sexpr.specs.declared.tree.Sexpr.{Sexpr}
-use Rattle.rare_sexpr.specs.Tree.{Step, go_down, kind_of, text_of, items_of}
+use Rattle.rare_sexpr.specs.Tree.{go_down, kind_of, text_of, items_of}
 use Rattle.rare_linear.specs.Linears.{LinearExpression, NamesBelow, linear, number, add, scale}
 use Rattle.rare_linear.specs.Entailment.{minus}
 use Rattle.rare_linear.specs.EntailmentTest.{is_within}
@@ -21,10 +21,19 @@ pub record WidthNames : Type 0 where
   pub number : List ℕ → Option ℕ
   pub size : Option (List ℕ → Option LinearExpression)
 
--- the numbers of the names are below the bound, and no names have sizes
+-- the size of a name; none has one where names have no sizes
+abbrev pub size_by : Option (List ℕ → Option LinearExpression) → List ℕ → Option LinearExpression
+size_by None text = None
+size_by (Some size) text = size text
+
+-- the names of every size are below the bound
+abbrev pub SizesBelow : ℕ → Option (List ℕ → Option LinearExpression) → Type 0
+SizesBelow n size = (text : List ℕ) → IfSome (size_by size text) (λ l. NamesBelow n l.parts)
+
+-- the numbers of the names are below the bound, and the names of their sizes
 pub record AreBelow (n : ℕ) (w : WidthNames) : Type 0 where
   pub numbers : (text : List ℕ) → IfSome (w.number text) (λ k. k < n)
-  pub sizes : w.size ≡ None
+  pub sizes : SizesBelow n w.size
 
 -- the width names of a problem
 abbrev pub widths_of : Names → WidthNames
@@ -132,6 +141,6 @@ linear_by w e k items = refused e reason.BadForm
 abbrev pub linear_at : WidthNames → Sexpr → Read LinearExpression
 linear_at w = go_down (Read LinearExpression) (λ e items. linear_by w e (kind_of e) items)
 
--- the names of what was read are below each bound that the numbers of the names are below
+-- the names of what was read are below each bound that those of widths and of sizes are below
 abbrev pub AllNamed : {F : Type 0} → WidthNames → Result LinearExpression F → Type 0
 AllNamed w result = (n : ℕ) → AreBelow n w → IfOk result (λ l. NamesBelow n l.parts)

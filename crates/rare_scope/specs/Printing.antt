@@ -30,10 +30,13 @@ number_text (negsuc n) =
 abbrev pub name_text : List (List ℕ) → ℕ → List ℕ
 name_text names k = written_symbol (slice_index_or names k [])
 
--- a name, with its coefficient where it is not 1
+-- a name, with its coefficient where it is not 1, by how names are written
+abbrev pub part_text_by : (ℕ → List ℕ) → Part → List ℕ
+part_text_by text p =
+    if int_eq p.1 (pos 1) then text p.0 else joined_texts (codes "(* " ∷ number_text p.1 ∷ codes " " ∷ text p.0 ∷ codes ")" ∷ [])
+
 abbrev pub part_text : List (List ℕ) → Part → List ℕ
-part_text names p =
-    if int_eq p.1 (pos 1) then name_text names p.0 else joined_texts (codes "(* " ∷ number_text p.1 ∷ codes " " ∷ name_text names p.0 ∷ codes ")" ∷ [])
+part_text names p = part_text_by (name_text names) p
 
 -- one text alone, or the sum of more
 abbrev pub sum_text : List (List ℕ) → List ℕ
@@ -44,9 +47,12 @@ sum_text ts = codes "(+" ++ (flat_map (λ t. codes " " ++ t) ts ++ codes ")")
 abbrev pub constant_texts : LinearExpression → List (List ℕ)
 constant_texts e = if int_eq e.constant (pos 0) then (if no_names e.parts then number_text e.constant ∷ [] else []) else number_text e.constant ∷ []
 
--- the parts in the order of their names, then the constant
+-- the parts in the order of their names, then the constant, by how names are written
+abbrev pub linear_text_by : (ℕ → List ℕ) → LinearExpression → List ℕ
+linear_text_by text e = sum_text (map (part_text_by text) e.parts ++ constant_texts e)
+
 abbrev pub linear_text : List (List ℕ) → LinearExpression → List ℕ
-linear_text names e = sum_text (map (part_text names) e.parts ++ constant_texts e)
+linear_text names e = linear_text_by (name_text names) e
 
 abbrev pub bit_vectors_text : Held → LinearExpression → List ℕ
 bit_vectors_text held w = joined_texts (codes "(_ BitVec " ∷ linear_text (width_names held) w ∷ codes ")" ∷ [])

@@ -1,7 +1,8 @@
-//! Refusals at expressions, and the tests on expressions that forms ask for.
+//! Refusals at expressions, the tests on expressions that forms ask for, and the bytes of symbols.
 ghost use Rattle.std.specs.Prelude.{◌≡◌};
 ghost use Rattle.rare_base.specs.declared.answers.Fault.TheVariants as fault;
-ghost use Rattle.rare_scope.specs.Reading.{is_keyword_kind, is_list_kind, is_numeral_kind, is_symbol_kind, is_word};
+ghost use Rattle.rare_scope.specs.Answers.{AnswersBytes};
+ghost use Rattle.rare_scope.specs.Reading.{is_keyword_kind, is_keyword_word, is_list_kind, is_numeral_kind, is_symbol_kind, is_word, symbol_at};
 ghost use Rattle.rare_sexpr.specs.Tree.{place_of, kind_of};
 
 use rare_base::{Fault, Reason};
@@ -50,4 +51,22 @@ pub fn is_word_at<E: Expr>(e: &E, word: &str) -> bool
     ensures { result ≡ is_word word.now (E.tree e.now) }
 {
     is_symbol(e) && e.text() == word.as_bytes()
+}
+
+/// Whether the expression is the keyword with these bytes.
+pub fn is_keyword_at<E: Expr>(e: &E, word: &str) -> bool
+    ensures { result ≡ is_keyword_word word.now (E.tree e.now) }
+{
+    is_keyword(e) && e.text() == word.as_bytes()
+}
+
+/// The bytes of a symbol: `BadForm` at another expression.
+pub fn read_symbol<E: Expr>(e: &E) -> Result<&[u8], Fault>
+    ensures { AnswersBytes result (symbol_at (E.tree e.now)) }
+{
+    if is_symbol(e) {
+        Ok(e.text())
+    } else {
+        Err(refusal_at(e, Reason::BadForm))
+    }
 }

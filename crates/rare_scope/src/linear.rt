@@ -1,15 +1,15 @@
 //! Linear expressions, read from expressions.
-ghost use Rattle.std.specs.Prelude.{◌≡◌, ◌-◌, ◌≤◌, Ok, Err, length, [], negsuc, true, false, IfOk};
+ghost use Rattle.std.specs.Prelude.{◌≡◌, ◌-◌, ◌≤◌, ◌&&◌, Ok, Err, length, [], negsuc, true, false, is_some, IfOk};
 ghost use Rattle.rare_linear.specs.Linears.{NamesBelow, add, scale};
 ghost use Rattle.rare_linear.specs.Entailment.{minus};
 ghost use Rattle.rare_scope.specs.Answers.{Answers};
-ghost use Rattle.rare_scope.specs.LinearText.{linear_at, linear_by, linear_form, sign_at, may_have, fitting, joined, times_by, widths_held, AllNamed};
+ghost use Rattle.rare_scope.specs.LinearText.{begins_size, linear_at, linear_by, linear_form, sign_at, size_by, size_of, may_have, fitting, joined, times_by, widths_held, AllNamed};
 ghost use Rattle.rare_scope.specs.Names.{width_names};
 ghost use Rattle.rare_scope.specs.Reading.{is_list_kind};
 ghost use Rattle.rare_sexpr.specs.Tree.{items_of, kind_of};
 ghost use Rattle.rare_sort.specs.SortRules.{number_in};
 
-use crate::faults::{is_list, is_symbol, refusal_at};
+use crate::faults::{is_list, is_symbol, is_word_at, refusal_at};
 use crate::numbers::small_numeral;
 use crate::scope::Scope;
 use crate::sign::{Sign, sign_of};
@@ -138,12 +138,53 @@ fn read_atom<E: Expr, W: WidthNames>(alloc: Global, e: &E, names: &W) -> Result<
     }
 }
 
-#[tactic(auto, using(rare_sexpr::proofs::Counting::depth_falls, crate::proofs::LinearSteps::atom_read))]
+// Whether `bvsize` is the first item.
+#[tactic(auto, using(crate::proofs::LinearSteps::begins_none, crate::proofs::LinearSteps::begins_at))]
+fn begins_with_bvsize<E: Expr>(e: &E) -> bool
+    ensures { result ≡ begins_size (items_of (E.tree e.now)) }
+{
+    if e.len() == 0 {
+        return false;
+    }
+    is_word_at(e.item(0), "bvsize")
+}
+
+// Whether the list is read as the size of a name.
+fn is_size<E: Expr, W: WidthNames>(e: &E, names: &W) -> bool
+    ensures { result ≡ (is_some (W.names names.now).size && begins_size (items_of (E.tree e.now))) }
+{
+    names.has_sizes() && begins_with_bvsize(e)
+}
+
+// The size of a name, which `(bvsize x)` spells.
+#[tactic(auto, using(crate::proofs::LinearSteps::size_other, crate::proofs::LinearSteps::size_two))]
+fn read_size<E: Expr, W: WidthNames>(alloc: Global, e: &E, names: &W) -> Result<Linear, Fault>
+    ensures { Answers result
+        (size_of (size_by (W.names names.now).size) (E.tree e.now) (items_of (E.tree e.now))) }
+{
+    if e.len() != 2 {
+        return Err(refusal_at(e, Reason::BadForm));
+    }
+    let operand = e.item(1);
+    if !is_symbol(operand) {
+        return Err(refusal_at(operand, Reason::BadForm));
+    }
+    match names.size(alloc, operand.text()) {
+        Ok(Some(size)) => Ok(size),
+        Ok(None) => Err(refusal_at(operand, Reason::UnknownSymbol)),
+        Err(_) => Err(Fault::Memory),
+    }
+}
+
+#[tactic(auto, using(rare_sexpr::proofs::Counting::depth_falls, crate::proofs::LinearSteps::atom_read, crate::proofs::LinearSteps::size_read))]
 fn read<E: Expr, W: WidthNames>(alloc: Global, e: &E, names: &W) -> Result<Linear, Fault>
     ensures { Answers result (linear_at (W.names names.now) (E.tree e.now)) }
 {
     if !is_list(e) {
         return read_atom(alloc, e, names);
+    }
+    if is_size(e, names) {
+        return read_size(alloc, e, names);
     }
     let sign = form(e)?;
     let mut sum = read(alloc, e.item(1), names)?;
@@ -157,13 +198,15 @@ fn read<E: Expr, W: WidthNames>(alloc: Global, e: &E, names: &W) -> Result<Linea
     Ok(sum)
 }
 
-/// The linear expression that an expression spells over names of widths, or its first fault. Its forms
-/// are a numeral, a name, `(+ E E ..)`, `(- E)`, `(- E E ..)`, and `(* E E)` where one factor has no name.
+/// The linear expression that an expression spells over names of widths, or its first fault. Its
+/// forms are a numeral, a name, `(+ E E ..)`, `(- E)`, `(- E E ..)`, `(* E E)` where one factor has
+/// no name, and `(bvsize x)` where names have sizes.
 ///
-/// Errors are `BadForm` at an expression of another form, or at the head of a list where it is no word of
-/// a form; `UnknownSymbol` at a name that is no width; `NonLinear` at a product of two that both have
-/// names; `TermLimit` at a numeral above `2^127 - 1`, and at a sum, difference or product of which a
-/// partial result leaves `i128`; and want of memory.
+/// Errors are `BadForm` at an expression of another form, at the head of a list where it is no word
+/// of a form, or at the operand of `bvsize` where it is no symbol; `UnknownSymbol` at a name that is
+/// no width, or at the operand of `bvsize` where it has no size; `NonLinear` at a product of two that
+/// both have names; `TermLimit` at a numeral above `2^127 - 1`, and at a sum, difference or product
+/// of which a partial result leaves `i128`; and want of memory.
 #[tactic(auto, using(crate::proofs::Naming::read_named))]
 pub fn read_linear_over<E: Expr, W: WidthNames>(
     alloc: Global,

@@ -3,12 +3,13 @@ ghost use Rattle.std.specs.Prelude.{◌≡◌, ◌++◌, ◌<◌, pos, IsTrue, l
 ghost use Rattle.std.specs.Ordering.{int_eq};
 ghost use Rattle.rare_linear.specs.Linears.{NamesBelow};
 ghost use Rattle.rare_scope.specs.Names.{width_names};
-ghost use Rattle.rare_scope.specs.Printing.{bit_vectors_text, is_named, linear_text, number_text, part_text, sort_text};
+ghost use Rattle.rare_scope.specs.Printing.{bit_vectors_text, is_named, linear_text, linear_text_by, number_text, part_text_by, sort_text};
 ghost use Rattle.rare_scope.specs.inner.Pieces.{end_text, whole_sum};
 ghost use Rattle.rare_sexpr.specs.Written.{IsCut};
 
 use crate::pieces::{Piece, write_pieces};
 use crate::scope::Scope;
+use crate::written::WrittenNames;
 use rare_base::Text;
 use rare_linear::Linear;
 use rare_sexpr::write_symbol;
@@ -35,18 +36,18 @@ fn write_constant(out: &mut Text, linear: &Linear) -> Result<(), AllocError>
 }
 
 // A part of a linear expression, behind some bytes.
-fn write_part<'x>(
+fn write_part<'x, N: WrittenNames>(
     out: &mut Text,
     lead: &'x [u8],
     part: &'x (u32, i128),
-    scope: &'x Scope,
+    names: &'x N,
 ) -> Result<(), AllocError>
-    requires { part.now.0 < length (width_names scope.now) }
-    ensures ok { OnOk result (out.new ≡ out.old ++ (lead.now ++ part_text (width_names scope.now) part.now)) }
-    ensures err { OnErr result (IsCut out.old (lead.now ++ part_text (width_names scope.now) part.now) out.new) }
+    requires { part.now.0 < N.count names.now }
+    ensures ok { OnOk result (out.new ≡ out.old ++ (lead.now ++ part_text_by (N.text names.now) part.now)) }
+    ensures err { OnErr result (IsCut out.old (lead.now ++ part_text_by (N.text names.now) part.now) out.new) }
 {
     let (k, coefficient) = part;
-    let name = Piece::Symbol(scope.width_name(*k));
+    let name = names.piece(*k);
     if is_one(coefficient) {
         write_pieces(out, &[Piece::Bytes(lead), name])
     } else {
@@ -83,22 +84,47 @@ fn write_end(out: &mut Text, linear: &Linear) -> Result<(), AllocError>
     }
 }
 
-fn write_sum(out: &mut Text, linear: &Linear, scope: &Scope) -> Result<(), AllocError>
-    requires { NamesBelow (length (width_names scope.now)) linear.now.parts }
-    ensures ok { OnOk result (out.new ≡ out.old ++ whole_sum (width_names scope.now) linear.now) }
-    ensures err { OnErr result (IsCut out.old (whole_sum (width_names scope.now) linear.now) out.new) }
+fn write_sum<N: WrittenNames>(out: &mut Text, linear: &Linear, names: &N) -> Result<(), AllocError>
+    requires { NamesBelow (N.count names.now) linear.now.parts }
+    ensures ok { OnOk result (out.new ≡ out.old ++ whole_sum (N.text names.now) linear.now) }
+    ensures err { OnErr result (IsCut out.old (whole_sum (N.text names.now) linear.now) out.new) }
 {
     out.append(b"(+")?;
     let parts = linear.parts();
     for part in parts {
-        write_part(out, b" ", part, scope)?;
+        write_part(out, b" ", part, names)?;
     }
     write_end(out, linear)
 }
 
-/// Appends a linear expression over the width names of a scope: its parts in the order of the names, then
+/// Appends a linear expression, by how its names are written: its parts in the order of the names, then
 /// the constant where it is not 0 or there are no parts. A part is `n` or `(* c n)`, more than one text
 /// stands in `(+ ..)`, and a negative number is `(- k)`.
+///
+/// Want of memory leaves the old bytes and perhaps the front of the text.
+pub fn write_linear_over<N: WrittenNames>(
+    linear: &Linear,
+    names: &N,
+    out: &mut Text,
+) -> Result<(), AllocError>
+    requires { NamesBelow (N.count names.now) linear.now.parts }
+    ensures ok { OnOk result (out.new ≡ out.old ++ linear_text_by (N.text names.now) linear.now) }
+    ensures err { OnErr result (IsCut out.old (linear_text_by (N.text names.now) linear.now) out.new) }
+{
+    let parts = linear.parts();
+    if parts.len() == 0 {
+        return write_constant(out, linear);
+    }
+    if parts.len() > 1 {
+        return write_sum(out, linear, names);
+    }
+    if !has_no_constant(linear) {
+        return write_sum(out, linear, names);
+    }
+    write_part(out, b"", &parts[0], names)
+}
+
+/// Appends a linear expression over the width names of a scope, as `write_linear_over` has it.
 ///
 /// Want of memory leaves the old bytes and perhaps the front of the text.
 pub fn write_linear(linear: &Linear, scope: &Scope, out: &mut Text) -> Result<(), AllocError>
@@ -106,17 +132,7 @@ pub fn write_linear(linear: &Linear, scope: &Scope, out: &mut Text) -> Result<()
     ensures ok { OnOk result (out.new ≡ out.old ++ linear_text (width_names scope.now) linear.now) }
     ensures err { OnErr result (IsCut out.old (linear_text (width_names scope.now) linear.now) out.new) }
 {
-    let parts = linear.parts();
-    if parts.len() == 0 {
-        return write_constant(out, linear);
-    }
-    if parts.len() > 1 {
-        return write_sum(out, linear, scope);
-    }
-    if !has_no_constant(linear) {
-        return write_sum(out, linear, scope);
-    }
-    write_part(out, b"", &parts[0], scope)
+    write_linear_over(linear, scope, out)
 }
 
 fn write_bit_vectors(width: &Linear, scope: &Scope, out: &mut Text) -> Result<(), AllocError>

@@ -2,6 +2,7 @@
 use Rattle.std.specs.Prelude.{◌≡◌, ◌+◌, ◌⊎◌, List, [], ◌∷◌, ◌++◌}
 use Rattle.rare_linear.specs.declared.constraint.Constraint.{Constraint}
 use Rattle.rare_sort.specs.DeclaredSorts.{nothing_declared}
+use Rattle.rare_sort.specs.Ids.{Extends}
 use Rattle.rare_sort.specs.declared.declarations.Declarations.{Declarations}
 use Rattle.rare_sort.specs.declared.sort.Signature.{Signature}
 use Rattle.rare_sort.specs.declared.tree.Tree.{Tree}
@@ -34,3 +35,8 @@ under change s = record s { declared = change s.declared }
 pub record AddsAtMost (t : Tree) (old new : State) : Type 0 where
   pub declared : new.declared ≡ old.declared
   pub trees : (new.trees ≡ old.trees) ⊎ (new.trees ≡ old.trees ++ t ∷ [])
+
+-- old ids keep their trees, and nothing is declared
+pub record Grows (old new : State) : Type 0 where
+  pub trees : Extends old.trees new.trees
+  pub declared : new.declared ≡ old.declared

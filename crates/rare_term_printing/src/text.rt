@@ -7,7 +7,7 @@ use itoa::Buffer;
 use rare_base::Text;
 use std::alloc::AllocError;
 
-// Appends a text behind a lead. Want of memory leaves the old bytes and perhaps the front of both.
+/// Appends a text behind a lead. Want of memory leaves the old bytes and perhaps the front of both.
 pub fn write_led(out: &mut Text, lead: &[u8], text: &[u8]) -> Result<(), AllocError>
     ensures ok { OnOk result (out.new ≡ out.old ++ (lead.now ++ text.now)) }
     ensures err { OnErr result (IsCut out.old (lead.now ++ text.now) out.new) }
@@ -16,7 +16,7 @@ pub fn write_led(out: &mut Text, lead: &[u8], text: &[u8]) -> Result<(), AllocEr
     out.append(text)
 }
 
-// The same of a number in decimal.
+/// Appends a number in decimal behind a lead. Want of memory leaves the old bytes and perhaps the front of both.
 pub fn write_number(out: &mut Text, lead: &[u8], n: u128) -> Result<(), AllocError>
     ensures ok { OnOk result (out.new ≡ out.old ++ (lead.now ++ decimal n)) }
     ensures err { OnErr result (IsCut out.old (lead.now ++ decimal n) out.new) }

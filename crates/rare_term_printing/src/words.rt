@@ -150,14 +150,14 @@ fn indexed_word_in(table: &[(&'static str, IndexedWord)], head: Head) -> &'stati
     b""
 }
 
-// The word of an operator without indices; empty where it has none.
+/// The word of an operator without indices; empty where it has none.
 pub fn operator_word(head: Head) -> &'static [u8]
     ensures { result.now ≡ operator_word head }
 {
     word_in(&OPERATOR_WORDS, head)
 }
 
-// The word of an operator with indices; empty where it has none.
+/// The word of an operator with indices; empty where it has none.
 pub fn indexed_word(head: Head) -> &'static [u8]
     ensures { result.now ≡ indexed_word head }
 {

@@ -11,7 +11,7 @@ use Rattle.rare_sort.specs.Ids.{tree_at, trees_at, AreIds}
 use Rattle.rare_sort.specs.declared.declarations.Declarations.{Declarations}
 use Rattle.rare_sort.specs.declared.tree.TermId.{TermId}
 use Rattle.rare_sort.specs.declared.tree.Tree.{Tree}
-use Rattle.rare_term.specs.State.{State}
+use Rattle.rare_term.specs.State.{State, Grows}
 use Rattle.rare_scope.specs.Answers.{Fails}
 use Rattle.rare_scope.specs.LinearText.{widths_of}
 use Rattle.rare_scope.specs.declared.meaning.Meaning.TheVariants as meaning
@@ -23,7 +23,6 @@ use Rattle.rare_operators.specs.declared.head.IndexedHead.{IndexedHead}
 use Rattle.rare_operators.specs.AtomText.{atom_at}
 use Rattle.rare_operators.specs.HeadText.{head_at}
 use Rattle.rare_operators.specs.LiteralText.{decimal_literal, linear_literal}
-use Rattle.rare_operators.specs.TermAnswers.{Grows}
 use Rattle.rare_term_text.specs.TermText.{Roles, roles, roles_at, term_at, term_by, list_term, arguments_from, application_of, binding_of, bindings_of, bindings_from, bound_name, let_of, begins_literal}
 use Rattle.rare_term_text.specs.inner.Parts.{all_names, parts, with_roles}
 use Rattle.rare_term_text.proofs.Naming.{names_kept, names_more, names_over, over_assoc, trees_kept, trees_push}

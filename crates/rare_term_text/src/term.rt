@@ -2,7 +2,8 @@
 ghost use Rattle.std.specs.Prelude.{◌≡◌, ◌++◌, slice_get, Some, OnOk};
 ghost use Rattle.rare_scope.specs.Names.{names_of, AreMeant};
 ghost use Rattle.rare_sexpr.specs.Tree.{items_of};
-ghost use Rattle.rare_operators.specs.TermAnswers.{AnswersTerm, Grows};
+ghost use Rattle.rare_term.specs.State.{Grows};
+ghost use Rattle.rare_operators.specs.TermAnswers.{AnswersTerm};
 ghost use Rattle.rare_term_text.specs.TermText.{term_at};
 ghost use Rattle.rare_term_text.specs.inner.Parts.{application_in, binding_in, bindings_in, let_in, term_in, AnswersBinding, AnswersBound};
 

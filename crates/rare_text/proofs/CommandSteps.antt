@@ -11,12 +11,12 @@ use Rattle.rare_sort.specs.Sameness.{sort_eq}
 use Rattle.rare_sort.specs.SortOf.{sort_of}
 use Rattle.rare_sort.specs.declared.tree.Tree.{Tree}
 use Rattle.rare_scope.specs.Names.{a_term}
-use Rattle.rare_scope.specs.Reading.{Read, refused, go_on}
+use Rattle.rare_scope.specs.Reading.{Read, refused, go_on, symbol_at}
 use Rattle.rare_scope.specs.Reserved.{is_among}
 use Rattle.rare_term_text.specs.TermText.{term_at}
 use Rattle.rare_text.specs.declared.problem.Rewrite.{Rewrite}
 use Rattle.rare_text.specs.ProblemText.{defined_term, definition, rewrite_name, rewrite_statement, sides_of_one_sort, tested}
-use Rattle.rare_text.specs.CommandParts.{symbol_at, new_name}
+use Rattle.rare_text.specs.CommandParts.{new_name}
 use Rattle.rare_text.specs.Problems.{StatedProblem, with_name, with_rewrite, with_floors}
 use Rattle.rare_text.specs.Samples.{fit_samples, hold_at_samples}
 use Rattle.rare_text.specs.Stated.{stated_rewrite}

@@ -9,9 +9,8 @@ use Rattle.rare_sort.specs.SortOf.{sort_of}
 use Rattle.rare_sort.specs.declared.sort.Signature.{Signature}
 use Rattle.rare_sort.specs.declared.tree.Tree.{Tree}
 use Rattle.rare_term.specs.Lawful.{IsLawful}
-use Rattle.rare_term.specs.State.{State, one_constraint, one_sort, one_symbol, one_width, under}
+use Rattle.rare_term.specs.State.{State, one_constraint, one_sort, one_symbol, one_width, under, Grows}
 use Rattle.rare_linear.specs.declared.constraint.Constraint.{Constraint}
-use Rattle.rare_operators.specs.TermAnswers.{Grows}
 use Rattle.rare_scope.specs.Names.{Held, a_term, names_of, meant, IsMeant, AreMeant}
 use Rattle.rare_scope.specs.declared.meaning.Meaning.{Meaning}
 use Rattle.rare_scope.specs.declared.meaning.Meaning.TheVariants as meaning

@@ -13,8 +13,7 @@ use Rattle.rare_sort.specs.declared.sort.Signature.{Signature}
 use Rattle.rare_sort.specs.declared.sort.Sort.{Sort}
 use Rattle.rare_sort.specs.declared.tree.TermId.{TermId}
 use Rattle.rare_term.specs.Lawful.{IsLawful}
-use Rattle.rare_term.specs.State.{State, one_constraint, one_sort, one_symbol, one_width, under}
-use Rattle.rare_operators.specs.TermAnswers.{Grows}
+use Rattle.rare_term.specs.State.{State, one_constraint, one_sort, one_symbol, one_width, under, Grows}
 use Rattle.rare_scope.specs.Names.{Held, a_term, a_sort, a_symbol, a_width, names_of, meant, IsMeant, names_with, sort_number, symbol_number, width_number}
 use Rattle.rare_scope.specs.Reading.{Read}
 use Rattle.rare_scope.specs.declared.meaning.Meaning.{Meaning}

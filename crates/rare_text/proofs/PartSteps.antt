@@ -7,11 +7,11 @@ use Rattle.rare_sort.specs.declared.declarations.Declarations.{Declarations}
 use Rattle.rare_sort.specs.declared.sort.Sort.{Sort}
 use Rattle.rare_sort.specs.declared.tree.Tree.{Tree}
 use Rattle.rare_scope.specs.Names.{Names, Held, names_of, is_declared}
-use Rattle.rare_scope.specs.Reading.{refused, go_on}
+use Rattle.rare_scope.specs.Reading.{refused, go_on, symbol_at}
 use Rattle.rare_scope.specs.Reserved.{is_among, is_reserved, is_theory_word}
 use Rattle.rare_scope.specs.SortText.{sort_at}
 use Rattle.rare_scope.proofs.Listing.{drop_at, drop_all}
-use Rattle.rare_text.specs.CommandParts.{symbol_at, free_name, new_name, sorts_from, sorts_at}
+use Rattle.rare_text.specs.CommandParts.{free_name, new_name, sorts_from, sorts_at}
 
 -- ---- names
 

@@ -8,12 +8,9 @@ use Rattle.rare_sort.specs.declared.declarations.Declarations.{Declarations}
 use Rattle.rare_sort.specs.declared.sort.Sort.{Sort}
 use Rattle.rare_scope.specs.Names.{Names}
 use Rattle.rare_scope.specs.Numbers.{small_number}
-use Rattle.rare_scope.specs.Reading.{Read, refused, go_on, is_list_kind, is_numeral_kind, is_symbol_kind}
+use Rattle.rare_scope.specs.Reading.{Read, refused, go_on, is_list_kind, is_numeral_kind, symbol_at}
 use Rattle.rare_scope.specs.Reserved.{is_among, is_reserved, is_theory_word}
 use Rattle.rare_scope.specs.SortText.{sort_at}
-
-abbrev pub symbol_at : Sexpr → Read (List ℕ)
-symbol_at e = if is_symbol_kind (kind_of e) then Ok (text_of e) else refused e reason.BadForm
 
 -- whether a name is declared or defined, or a word of the theories
 abbrev pub is_taken : Names → List ℕ → Bool

@@ -16,7 +16,7 @@ use Rattle.rare_scope.specs.ConstraintText.{constraints_at}
 use Rattle.rare_scope.specs.Entries.{entry}
 use Rattle.rare_scope.specs.LinearText.{widths_of}
 use Rattle.rare_scope.specs.Names.{Names, a_term}
-use Rattle.rare_scope.specs.Reading.{Read, refused, go_on, is_keyword_kind, is_symbol_kind}
+use Rattle.rare_scope.specs.Reading.{Read, refused, go_on, is_keyword_kind, is_symbol_kind, symbol_at}
 use Rattle.rare_scope.specs.Reserved.{is_among}
 use Rattle.rare_scope.specs.SortText.{sort_at}
 use Rattle.rare_term_text.specs.TermText.{term_at}
@@ -24,7 +24,7 @@ use Rattle.rare_text.specs.Samples.{fit_samples, hold_at_samples}
 use Rattle.rare_text.specs.declared.commands.CommandWord.{CommandWord}
 use Rattle.rare_text.specs.declared.commands.CommandWord.TheVariants.{SetLogic, SetInfo, SetOption, DeclareSort, DeclareConst, DeclareFun, DefineFun, DeclareWidth, AssumeWidth, Rewrite}
 use Rattle.rare_text.specs.Problems.{StatedProblem, StatedRewrite, no_problem, with_floors, with_name, with_rewrite, with_sort, with_symbol, with_width}
-use Rattle.rare_text.specs.CommandParts.{is_empty_list, is_zero_numeral, new_name, sample_at, sorts_at, symbol_at}
+use Rattle.rare_text.specs.CommandParts.{is_empty_list, is_zero_numeral, new_name, sample_at, sorts_at}
 
 -- ---- commands
 

@@ -6,11 +6,11 @@ ghost use Rattle.rare_scope.specs.Names.{names_of, is_declared, AreMeant};
 ghost use Rattle.rare_sexpr.specs.Tree.{items_of};
 ghost use Rattle.rare_sort.specs.DeclaredSorts.{IsDeclaredSort};
 ghost use Rattle.rare_sort.specs.declared.tree.Tree.{Tree};
-ghost use Rattle.rare_text.specs.CommandParts.{is_empty_list, is_zero_numeral, new_name, sample_at, sorts_at, symbol_at};
+ghost use Rattle.rare_text.specs.CommandParts.{is_empty_list, is_zero_numeral, new_name, sample_at, sorts_at};
 
 use rare_base::{Fault, Reason, Text};
 use rare_scope::{
-    Scope, is_list, is_numeral, is_reserved_name, is_symbol, read_sort, refusal_at, small_numeral,
+    Scope, is_list, is_numeral, is_reserved_name, read_sort, read_symbol, refusal_at, small_numeral,
 };
 use rare_sexpr::Expr;
 use rare_sort::Sorts;
@@ -20,33 +20,23 @@ use std::alloc::Global;
 /// The largest sample of a width.
 pub const LARGEST_SAMPLE: usize = 1 << 32;
 
-/// The name that a symbol spells: `BadForm` at another expression.
-pub fn read_symbol<E: Expr>(alloc: Global, e: &E) -> Result<Text, Fault>
-    ensures { Answers result (symbol_at (E.tree e.now)) }
-{
-    if !is_symbol(e) {
-        return Err(refusal_at(e, Reason::BadForm));
-    }
-    match Text::of(alloc, e.text()) {
-        Ok(name) => Ok(name),
-        Err(_) => Err(Fault::Memory),
-    }
-}
-
 /// A name that may be declared: `BadForm` at an expression that is no symbol, `DeclaredTwice` at a name that
 /// is declared or a word of the theories, `ReservedSymbol` at a reserved one.
 pub fn read_new_name<E: Expr>(alloc: Global, e: &E, scope: &Scope) -> Result<Text, Fault>
     ensures read { (ts : List Tree) → Answers result (new_name (names_of ts scope.now) (E.tree e.now)) }
     ensures new { IfOk result (λ name. is_declared scope.now name ≡ false) }
 {
-    let name = read_symbol(alloc, e)?;
-    if scope.declares(name.bytes()) {
+    let name = read_symbol(e)?;
+    if scope.declares(name) {
         return Err(refusal_at(e, Reason::DeclaredTwice));
     }
-    if is_reserved_name(name.bytes()) {
+    if is_reserved_name(name) {
         return Err(refusal_at(e, Reason::ReservedSymbol));
     }
-    Ok(name)
+    match Text::of(alloc, name) {
+        Ok(name) => Ok(name),
+        Err(_) => Err(Fault::Memory),
+    }
 }
 
 fn is_zeros(digits: &[u8]) -> bool

@@ -1,7 +1,8 @@
 //! Definitions and rewrites, read from their items.
 ghost use Rattle.std.specs.Prelude.{◌≡◌, ◌<◌, false, List, length, map, bytes_eq, IfOk};
 ghost use Rattle.std.specs.List.{list_any};
-ghost use Rattle.rare_operators.specs.TermAnswers.{AnswersTerm, Grows};
+ghost use Rattle.rare_term.specs.State.{Grows};
+ghost use Rattle.rare_operators.specs.TermAnswers.{AnswersTerm};
 ghost use Rattle.rare_scope.specs.Answers.{Answers};
 ghost use Rattle.rare_scope.specs.Names.{names_of};
 ghost use Rattle.rare_sort.specs.Ids.{Extends};
@@ -11,11 +12,11 @@ ghost use Rattle.rare_text.specs.ProblemText.{defined_term, definition, rewrite_
 ghost use Rattle.rare_text.specs.Stated.{stated_problem, stated_rewrite};
 ghost use Rattle.rare_text.specs.inner.Standing.{AnswersReader, IsProblemOf};
 
-use crate::parts::{is_nothing, read_new_name, read_symbol};
+use crate::parts::{is_nothing, read_new_name};
 use crate::problem::Rewrite;
 use crate::reader::ProblemReader;
 use rare_base::{Fault, Reason, Text};
-use rare_scope::{read_sort, refusal_at};
+use rare_scope::{read_sort, read_symbol, refusal_at};
 use rare_sexpr::Expr;
 use rare_sort::is_same_sort;
 use rare_term::{TermId, Terms};
@@ -78,11 +79,14 @@ fn read_rewrite_name<E: Expr>(
         Answers result (rewrite_name (map (stated_rewrite ts) reader.now.problem.rewrites) (E.tree name.now)) }
     ensures new { IfOk result (λ text. list_any (bytes_eq text) (map (λ r. r.name) reader.now.problem.rewrites) ≡ false) }
 {
-    let text = read_symbol(alloc, name)?;
-    if reader.has_rewrite(text.bytes()) {
+    let text = read_symbol(name)?;
+    if reader.has_rewrite(text) {
         return Err(refusal_at(name, Reason::DeclaredTwice));
     }
-    Ok(text)
+    match Text::of(alloc, text) {
+        Ok(text) => Ok(text),
+        Err(_) => Err(Fault::Memory),
+    }
 }
 
 /// The problem with the rewrite that the command `e`, `(rewrite N t s)`, states.

@@ -1,5 +1,5 @@
 -- Parts of commands as they were read, by the trees of their terms.
-use Rattle.std.specs.Prelude.{◌≡◌, ℕ, List, [], ◌∷◌, Option, Some, Result, Ok, Err}
+use Rattle.std.specs.Prelude.{◌≡◌, ℕ, List, [], ◌∷◌, Option, Result, Ok, Err}
 use Rattle.std.specs.Borrow.{Bor}
 use Rattle.rare_base.specs.declared.answers.Fault.{Fault}
 use Rattle.rare_base.specs.declared.answers.Reason.TheVariants as reason
@@ -16,11 +16,6 @@ use Rattle.rare_proof_text.specs.ProofText.{step_command, proof_command_by}
 use Rattle.rare_proof_text.specs.ProofCommands.{ProofCommand, Step}
 use Rattle.rare_proof_text.specs.declared.words.ProofWord.{ProofWord}
 use Rattle.rare_proof_text.specs.declared.command.ReadStep.{ReadStep}
-
--- the bytes that were read, or the first fault
-abbrev pub AnswersBytes : Result (Bor (List ℕ)) Fault → Read (List ℕ) → Type 0
-AnswersBytes (Ok text) read = read ≡ Ok text.now
-AnswersBytes (Err f) read = Fails f read
 
 abbrev pub pair_at : List Tree → Sides → Tree × Tree
 pair_at ts s = (tree_at ts s.left.0, tree_at ts s.right.0)

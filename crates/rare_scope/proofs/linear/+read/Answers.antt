@@ -1,12 +1,12 @@
-use Rattle.std.proofs.Common.{◌≡◌, ◌≤◌, ◌+◌, sym, ◌∙◌, ap, subst, map, drop, length, arith, refl, [], Bool, true, false, not, Result, Ok}
+use Rattle.std.proofs.Common.{◌≤◌, ◌+◌, sym, ◌∙◌, ap, subst, map, drop, length, arith}
 use Rattle.std.proofs.lemmas.Result.{err_from_is_err_and}
-use Rattle.rare_sexpr.specs.Tree.{items_of, kind_of}
-use Rattle.rare_scope.specs.Reading.{Read, go_on, is_list_kind}
-use Rattle.rare_scope.specs.Answers.{Fails, Answers}
-use Rattle.rare_scope.specs.LinearText.{linear_at, linear_form, operands, from_first, folded, joined, fitting}
+use Rattle.rare_sexpr.specs.Tree.{items_of}
+use Rattle.rare_scope.specs.Reading.{Read, go_on}
+use Rattle.rare_scope.specs.Answers.{Answers}
+use Rattle.rare_scope.specs.LinearText.{linear_at, linear_form, operands, from_first, folded, joined}
 use Rattle.rare_linear.specs.Linears.{LinearExpression}
 use Rattle.rare_scope.proofs.InOrder.{fails_on, goes_on}
-use Rattle.rare_scope.proofs.LinearSteps.{pair, list_read, first_read, next_read, last_read, more_read}
+use Rattle.rare_scope.proofs.LinearSteps.{pair, list_read, first_read, next_read, more_read}
 use Rattle.rare_scope.proofs.Listing.{drop_all}
 use Rattle.rare_scope.proofs.linear.+read.Goals as goal
 
@@ -16,7 +16,7 @@ returns-in_err-sign g t c =
     let w = g.W.WidthNames.names c.args.names.now in
     let p = err_from_is_err_and c.from_residual.result c.from_residual.ensures.1 in
     rw (p.1, p.2) (fails_on c.in_err-sign.field-0.0 (linear_form e) (λ s. operands e s (map (pair w) (drop 1 (items_of e)))) (linear_at w e)
-    (list_read w (g.met.W.WidthNames.no_sizes c.args.names.now) e (sym c.is_list.ensures ∙ c.if-not-is_list.false)) c.in_err-sign.ensures.form)
+    (list_read w e (sym c.is_size.ensures ∙ c.if-is_size.false) (sym c.is_list.ensures ∙ c.if-not-is_list.false)) c.in_err-sign.ensures.form)
 
 pub returns-in_err-sum : goal.returns-in_err-sum
 returns-in_err-sum g t c =
@@ -24,7 +24,7 @@ returns-in_err-sum g t c =
     let w = g.W.WidthNames.names c.args.names.now in
     let p = err_from_is_err_and c.from_residual-in_err-sum.result c.from_residual-in_err-sum.ensures.1 in
     rw (p.1, p.2) (fails_on c.in_err-sum.field-0.0 (linear_at w (g.E.Expr.tree c.item.result.now)) (λ l. from_first e c.in_ok-sign.sign l (map (pair w) (drop 2 (items_of e)))) (linear_at w e)
-    (first_read w (g.met.W.WidthNames.no_sizes c.args.names.now) e (g.E.Expr.tree c.item.result.now) c.in_ok-sign.sign (sym c.is_list.ensures ∙ c.if-not-is_list.false) c.in_ok-sign.ensures.form c.item.ensures) c.in_err-sum.ensures)
+    (first_read w e (g.E.Expr.tree c.item.result.now) c.in_ok-sign.sign (sym c.is_size.ensures ∙ c.if-is_size.false) (sym c.is_list.ensures ∙ c.if-not-is_list.false) c.in_ok-sign.ensures.form c.item.ensures) c.in_err-sum.ensures)
 
 pub returns-then-len-eq2 : goal.returns-then-len-eq2
 returns-then-len-eq2 g t c =
@@ -33,13 +33,13 @@ returns-then-len-eq2 g t c =
     let x = g.E.Expr.tree c.item.result.now in
     let le : length (items_of e) ≤ 2 = omega arith in
     let whole = goes_on (linear_at w x) c.in_ok-sum.sum (λ l. from_first e c.in_ok-sign.sign l (map (pair w) (drop 2 (items_of e)))) (linear_at w e)
-    (first_read w (g.met.W.WidthNames.no_sizes c.args.names.now) e x c.in_ok-sign.sign (sym c.is_list.ensures ∙ c.if-not-is_list.false) c.in_ok-sign.ensures.form c.item.ensures) c.in_ok-sum.ensures in
+    (first_read w e x c.in_ok-sign.sign (sym c.is_size.ensures ∙ c.if-is_size.false) (sym c.is_list.ensures ∙ c.if-not-is_list.false) c.in_ok-sign.ensures.form c.item.ensures) c.in_ok-sum.ensures in
     let P : Read LinearExpression → Type 0 = λ r. Answers c.multiple.result r in
     subst P (sym (whole ∙ ap (λ xs. from_first e c.in_ok-sign.sign c.in_ok-sum.sum (map (pair w) xs)) (drop_all (items_of e) 2 le))) c.multiple.ensures
 
 pub loop-k-init : goal.loop-k-init
 loop-k-init g t c =
-    more_read (g.W.WidthNames.names c.args.names.now) (g.met.W.WidthNames.no_sizes c.args.names.now) (g.E.Expr.tree c.args.e.now) (g.E.Expr.tree c.item.result.now) c.in_ok-sign.sign c.in_ok-sum.sum (sym c.is_list.ensures ∙ c.if-not-is_list.false)
+    more_read (g.W.WidthNames.names c.args.names.now) (g.E.Expr.tree c.args.e.now) (g.E.Expr.tree c.item.result.now) c.in_ok-sign.sign c.in_ok-sum.sum (sym c.is_size.ensures ∙ c.if-is_size.false) (sym c.is_list.ensures ∙ c.if-not-is_list.false)
     c.in_ok-sign.ensures.form c.item.ensures (omega (arith, c.in_ok-sign.ensures.two, c.len.ensures, c.if-len-eq2.false)) c.in_ok-sum.ensures
 
 pub returns-in_err-next : goal.returns-in_err-next

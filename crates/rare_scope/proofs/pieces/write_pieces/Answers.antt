@@ -1,7 +1,8 @@
 use Rattle.std.proofs.Common.{[]}
 use Rattle.rare_sexpr.specs.Written.{IsCut}
 use Rattle.rare_scope.specs.declared.pieces.Piece.TheVariants.{Bytes}
-use Rattle.rare_scope.specs.inner.Pieces.{piece_text, pieces_text}
+use Rattle.rare_scope.specs.Pieces.{piece_text}
+use Rattle.rare_scope.specs.inner.Pieces.{pieces_text}
 use Rattle.rare_scope.proofs.Cutting.{cut_item, in_any}
 use Rattle.rare_scope.proofs.pieces.write_pieces.Goals as goal
 

@@ -2,19 +2,18 @@ use Rattle.std.proofs.Common.{◌≡◌, ◌++◌, ◌<◌, ℕ, List, refl, len
 use Rattle.std.specs.Prelude.{pos, codes, flat_map}
 use Rattle.rare_linear.specs.Linears.{Part, NamesBelow}
 use Rattle.rare_sexpr.specs.Written.{IsCut}
-use Rattle.rare_scope.specs.Names.{width_names}
 use Rattle.rare_scope.specs.inner.Pieces.{spaced_part, end_text, whole_sum}
 use Rattle.rare_scope.proofs.Cutting.{through, cut_front, cut_behind, cut_item, in_any, on_err}
 use Rattle.rare_scope.proofs.PrintingSteps.{part_below}
 use Rattle.rare_scope.proofs.write.write_sum.Goals as goal
 
 pub write_part-requires : goal.write_part-requires
-write_part-requires c =
-    part_below (length (width_names c.args.scope.now)) c.parts-parts.result.now c.loop-part.part-index (0, pos 0) (subst (λ (ps : List Part). NamesBelow (length (width_names c.args.scope.now)) ps) (sym c.parts-parts.ensures.parts) c.requires) c.loop-part-test.true
+write_part-requires g c =
+    part_below (g.N.WrittenNames.count c.args.names.now) c.parts-parts.result.now c.loop-part.part-index (0, pos 0) (subst (λ (ps : List Part). NamesBelow (g.N.WrittenNames.count c.args.names.now) ps) (sym c.parts-parts.ensures.parts) c.requires) c.loop-part-test.true
 
 pub returns-in_err-write_part-clause-err : goal.returns-in_err-write_part-clause-err
-returns-in_err-write_part-clause-err c =
-    let names = (width_names c.args.scope.now) in
+returns-in_err-write_part-clause-err g c =
+    let names = g.N.WrittenNames.text c.args.names.now in
     let e = c.args.linear.now in
     let old = c.args.out.now in
     let new = c.write_part.new.out in
@@ -27,8 +26,8 @@ returns-in_err-write_part-clause-err c =
     (cut_item (spaced_part names) c.parts-parts.result.now c.loop-part.part-index (0, pos 0) (old ++ codes "(+") c.loop-part.out new c.loop-part-test.true c.loop-part.invariant c.in_err-write_part.ensures.err))))
 
 pub returns-clause-err : goal.returns-clause-err
-returns-clause-err c =
-    let names = (width_names c.args.scope.now) in
+returns-clause-err g c =
+    let names = g.N.WrittenNames.text c.args.names.now in
     let e = c.args.linear.now in
     let old = c.args.out.now in
     let new = c.write_end.new.out in

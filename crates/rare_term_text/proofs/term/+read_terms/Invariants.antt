@@ -2,7 +2,7 @@ use Rattle.std.proofs.Common.{◌≡◌, ◌+◌, ◌*◌, ◌++◌, length, dro
 use Rattle.rare_sexpr.specs.Tree.{depth, items_of}
 use Rattle.rare_sort.specs.Ids.{AreIds, trees_at}
 use Rattle.rare_scope.specs.Names.{names_of, AreMeant}
-use Rattle.rare_operators.specs.TermAnswers.{Grows}
+use Rattle.rare_term.specs.State.{Grows}
 use Rattle.rare_term_text.specs.TermText.{roles_at, application_of, arguments_from, bindings_from}
 use Rattle.rare_term_text.specs.inner.Parts.{all_names, with_roles}
 use Rattle.rare_term_text.proofs.term.+read_terms.Given as goal

@@ -4,15 +4,15 @@ use Rattle.rare_text.proofs.parts.read_new_name.Goals as goal
 
 pub returns-then-declares-clause-read : goal.returns-then-declares-clause-read
 returns-then-declares-clause-read g c ts =
-    rw c.refusal_at.ensures (name_taken ts c.args.scope.now (g.E.Expr.tree c.args.e.now) c.in_ok-name.name c.in_ok-name.ensures (rw (sym c.bytes.ensures) (sym c.declares.ensures ∙ c.if-declares.true)))
+    rw c.refusal_at.ensures (name_taken ts c.args.scope.now (g.E.Expr.tree c.args.e.now) c.in_ok-name.name.now c.in_ok-name.ensures (sym c.declares.ensures ∙ c.if-declares.true))
 
 pub returns-then-is_reserved_name-clause-read : goal.returns-then-is_reserved_name-clause-read
 returns-then-is_reserved_name-clause-read g c ts =
     rw c.refusal_at-then-is_reserved_name.ensures
-    (name_reserved ts c.args.scope.now (g.E.Expr.tree c.args.e.now) c.in_ok-name.name c.in_ok-name.ensures (rw (sym c.bytes.ensures) (sym c.declares.ensures ∙ c.if-declares.false))
-    (rw (sym c.bytes-2.ensures) (sym c.is_reserved_name.ensures ∙ c.if-is_reserved_name.true)))
+    (name_reserved ts c.args.scope.now (g.E.Expr.tree c.args.e.now) c.in_ok-name.name.now c.in_ok-name.ensures (sym c.declares.ensures ∙ c.if-declares.false)
+    (sym c.is_reserved_name.ensures ∙ c.if-is_reserved_name.true))
 
-pub returns-clause-read : goal.returns-clause-read
-returns-clause-read g c ts =
-    name_free ts c.args.scope.now (g.E.Expr.tree c.args.e.now) c.in_ok-name.name c.in_ok-name.ensures (rw (sym c.bytes.ensures) (sym c.declares.ensures ∙ c.if-declares.false))
-    (rw (sym c.bytes-2.ensures) (sym c.is_reserved_name.ensures ∙ c.if-is_reserved_name.false))
+pub returns-in-Ok-clause-read : goal.returns-in-Ok-clause-read
+returns-in-Ok-clause-read g c ts =
+    rw c.in-Ok.ensures (name_free ts c.args.scope.now (g.E.Expr.tree c.args.e.now) c.in_ok-name.name.now c.in_ok-name.ensures (sym c.declares.ensures ∙ c.if-declares.false)
+    (sym c.is_reserved_name.ensures ∙ c.if-is_reserved_name.false))

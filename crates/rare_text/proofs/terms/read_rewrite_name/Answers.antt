@@ -4,10 +4,8 @@ use Rattle.rare_text.proofs.terms.read_rewrite_name.Goals as goal
 
 pub returns-then-has_rewrite-clause-read : goal.returns-then-has_rewrite-clause-read
 returns-then-has_rewrite-clause-read g c ts =
-    rw c.refusal_at.ensures (rewrite_twice ts c.args.reader.now.problem.rewrites (g.E.Expr.tree c.args.name.now) c.in_ok-text.text c.in_ok-text.ensures
-    (rw (sym c.bytes.ensures) (sym c.has_rewrite.ensures ∙ c.if-has_rewrite.true)))
+    rw c.refusal_at.ensures (rewrite_twice ts c.args.reader.now.problem.rewrites (g.E.Expr.tree c.args.name.now) c.in_ok-text.text.now c.in_ok-text.ensures (sym c.has_rewrite.ensures ∙ c.if-has_rewrite.true))
 
-pub returns-clause-read : goal.returns-clause-read
-returns-clause-read g c ts =
-    rewrite_new ts c.args.reader.now.problem.rewrites (g.E.Expr.tree c.args.name.now) c.in_ok-text.text c.in_ok-text.ensures
-    (rw (sym c.bytes.ensures) (sym c.has_rewrite.ensures ∙ c.if-has_rewrite.false))
+pub returns-in-Ok-clause-read : goal.returns-in-Ok-clause-read
+returns-in-Ok-clause-read g c ts =
+    rw c.in-Ok.ensures (rewrite_new ts c.args.reader.now.problem.rewrites (g.E.Expr.tree c.args.name.now) c.in_ok-text.text.now c.in_ok-text.ensures (sym c.has_rewrite.ensures ∙ c.if-has_rewrite.false))
