@@ -1,4 +1,4 @@
--- Values that differ, by their codes.
+-- Values that differ, by their ordinals.
 use Rattle.std.proofs.Common.{◌≡◌, ℕ, zero, suc, Bool as Test, true, false, not, ◌&&◌, ◌||◌, List, [], ◌∷◌, ◌++◌, map, take, length, Option, Some, refl, sym, ap, ◌∙◌, subst, arith, inl, inr, eq-eqb}
 use Rattle.std.proofs.lemmas.Bool.{eqb-true}
 use Rattle.std.specs.Prelude.{ℤ, pos, negsuc, nat_eq, ◌⊎◌, ◌≢◌, nat_le}
@@ -15,18 +15,18 @@ use Rattle.rare_meaning.specs.Values.{Value, Truth, Whole, Bits, value_eq, bit_o
 use Rattle.rare_meaning.specs.Settings.{Item}
 use Rattle.rare_meaning.specs.Splicing.{values, equals_any, all_differ}
 use Rattle.rare_meaning.proofs.ValueLemmas.{value_cases}
-use Rattle.rare_eval.specs.inner.Codes.{whole_code, value_code}
+use Rattle.rare_eval.specs.inner.Ordinals.{whole_ordinal, value_ordinal}
 use Rattle.rare_eval.specs.inner.Sorted.{IsValueOf}
 
-whole_codes : (y z : ℤ) → whole_code y ≡ whole_code z → y ≡ z
-whole_codes (pos m) (pos n) e = ap pos (omega (arith, e))
-whole_codes (pos m) (negsuc n) e = absurd (omega (arith, e))
-whole_codes (negsuc m) (pos n) e = absurd (omega (arith, e))
-whole_codes (negsuc m) (negsuc n) e = ap negsuc (omega (arith, e))
+whole_ordinals : (y z : ℤ) → whole_ordinal y ≡ whole_ordinal z → y ≡ z
+whole_ordinals (pos m) (pos n) e = ap pos (omega (arith, e))
+whole_ordinals (pos m) (negsuc n) e = absurd (omega (arith, e))
+whole_ordinals (negsuc m) (pos n) e = absurd (omega (arith, e))
+whole_ordinals (negsuc m) (negsuc n) e = ap negsuc (omega (arith, e))
 
 -- two tests that agree where both are decided
-by_codes : (v w : Value) (m n : ℕ) → (v ≡ w → m ≡ n) → (m ≡ n → v ≡ w) → value_eq v w ≡ nat_eq m n
-by_codes v w m n there back = go (value_cases v w)
+by_ordinals : (v w : Value) (m n : ℕ) → (v ≡ w → m ≡ n) → (m ≡ n → v ≡ w) → value_eq v w ≡ nat_eq m n
+by_ordinals v w m n there back = go (value_cases v w)
   where
     other : (b : Test) → nat_eq m n ≡ b → (v ≢ w) → b ≡ false
     other true e ne = absurd (ne (back (eqb-true m n e)))
@@ -36,33 +36,33 @@ by_codes v w m n there back = go (value_cases v w)
     go (inl (t, e)) = t ∙ sym (eq-eqb m n (there e))
     go (inr (f, ne)) = f ∙ sym (other (nat_eq m n) refl ne)
 
-bit_codes : (a b : Test) → bit_of a ≡ bit_of b → a ≡ b
-bit_codes true true e = refl
-bit_codes false false e = refl
-bit_codes true false e = cc
-bit_codes false true e = cc
+bit_ordinals : (a b : Test) → bit_of a ≡ bit_of b → a ≡ b
+bit_ordinals true true e = refl
+bit_ordinals false false e = refl
+bit_ordinals true false e = cc
+bit_ordinals false true e = cc
 
-codes_same : (s : Sort) (i j : Item) → IsValueOf s i → IsValueOf s j → value_eq i.value j.value ≡ nat_eq (value_code i.value) (value_code j.value)
-codes_same Bool i j (a, p) (b, q) =
-    subst (λ x. value_eq x.value j.value ≡ nat_eq (value_code x.value) (value_code j.value)) (sym p)
-    (subst (λ y. value_eq (Truth a) y.value ≡ nat_eq (bit_of a) (value_code y.value)) (sym q)
-    (by_codes (Truth a) (Truth b) (bit_of a) (bit_of b) (λ e. ap value_code e) (λ e. ap Truth (bit_codes a b e))))
-codes_same Int i j (a, p) (b, q) =
-    subst (λ x. value_eq x.value j.value ≡ nat_eq (value_code x.value) (value_code j.value)) (sym p)
-    (subst (λ y. value_eq (Whole a) y.value ≡ nat_eq (whole_code a) (value_code y.value)) (sym q)
-    (by_codes (Whole a) (Whole b) (whole_code a) (whole_code b) (λ e. ap value_code e) (λ e. ap (λ z. Whole z) (whole_codes a b e))))
-codes_same (BitVec w) i j h k =
+ordinals_same : (s : Sort) (i j : Item) → IsValueOf s i → IsValueOf s j → value_eq i.value j.value ≡ nat_eq (value_ordinal i.value) (value_ordinal j.value)
+ordinals_same Bool i j (a, p) (b, q) =
+    subst (λ x. value_eq x.value j.value ≡ nat_eq (value_ordinal x.value) (value_ordinal j.value)) (sym p)
+    (subst (λ y. value_eq (Truth a) y.value ≡ nat_eq (bit_of a) (value_ordinal y.value)) (sym q)
+    (by_ordinals (Truth a) (Truth b) (bit_of a) (bit_of b) (λ e. ap value_ordinal e) (λ e. ap Truth (bit_ordinals a b e))))
+ordinals_same Int i j (a, p) (b, q) =
+    subst (λ x. value_eq x.value j.value ≡ nat_eq (value_ordinal x.value) (value_ordinal j.value)) (sym p)
+    (subst (λ y. value_eq (Whole a) y.value ≡ nat_eq (whole_ordinal a) (value_ordinal y.value)) (sym q)
+    (by_ordinals (Whole a) (Whole b) (whole_ordinal a) (whole_ordinal b) (λ e. ap value_ordinal e) (λ e. ap (λ z. Whole z) (whole_ordinals a b e))))
+ordinals_same (BitVec w) i j h k =
     let same : h.width ≡ k.width = let e : number (pos h.width) ≡ number (pos k.width) = sym h.named ∙ k.named in cc (ap (λ x. x.constant) e) in
-    subst (λ x. value_eq x.value j.value ≡ nat_eq (value_code x.value) (value_code j.value)) (sym h.is)
-    (subst (λ y. value_eq (Bits h.width h.bits_of) y.value ≡ nat_eq h.bits_of (value_code y.value)) (sym k.is)
-    (by_codes (Bits h.width h.bits_of) (Bits k.width k.bits_of) h.bits_of k.bits_of (λ e. ap value_code e) (λ e. λ x. Bits (same x) (e x))))
-codes_same (Array' p k q e) i j h l = absurd h
-codes_same (Named k) i j h l = absurd h
+    subst (λ x. value_eq x.value j.value ≡ nat_eq (value_ordinal x.value) (value_ordinal j.value)) (sym h.is)
+    (subst (λ y. value_eq (Bits h.width h.bits_of) y.value ≡ nat_eq h.bits_of (value_ordinal y.value)) (sym k.is)
+    (by_ordinals (Bits h.width h.bits_of) (Bits k.width k.bits_of) h.bits_of k.bits_of (λ e. ap value_ordinal e) (λ e. λ x. Bits (same x) (e x))))
+ordinals_same (Array' p k q e) i j h l = absurd h
+ordinals_same (Named k) i j h l = absurd h
 
 any_same : (s : Sort) (is : List Item) (v : Item) → Each (IsValueOf s) is → IsValueOf s v →
-    list_any (λ u. value_eq u v.value) (values is) ≡ list_any (λ n. nat_eq n (value_code v.value)) (map (λ i. value_code i.value) is)
+    list_any (λ u. value_eq u v.value) (values is) ≡ list_any (λ n. nat_eq n (value_ordinal v.value)) (map (λ i. value_ordinal i.value) is)
 any_same s [] v h k = refl
-any_same s (i ∷ is) v h k = λ x. codes_same s i v h.0 k x || any_same s is v h.1 k x
+any_same s (i ∷ is) v h k = λ x. ordinals_same s i v h.0 k x || any_same s is v h.1 k x
 
 equals_more : (x : Value) (vs : List Value) (v : Value) → equals_any x (vs ++ v ∷ []) ≡ (equals_any x vs || value_eq x v)
 equals_more x [] v = nothing (value_eq x v)
@@ -91,10 +91,10 @@ values_append : (is js : List Item) → values (is ++ js) ≡ values is ++ value
 values_append [] js = refl
 values_append (i ∷ is) js = ap (λ vs. i.value ∷ vs) (values_append is js)
 
--- whether all differ with one value more, by the codes
-pub codes_more : (s : Sort) (is : List Item) (v : Item) → Each (IsValueOf s) is → IsValueOf s v →
-    all_differ (values (is ++ v ∷ [])) ≡ (all_differ (values is) && not (list_any (λ n. nat_eq n (value_code v.value)) (map (λ i. value_code i.value) is)))
-codes_more s is v h k =
+-- whether all differ with one value more, by the ordinals
+pub ordinals_more : (s : Sort) (is : List Item) (v : Item) → Each (IsValueOf s) is → IsValueOf s v →
+    all_differ (values (is ++ v ∷ [])) ≡ (all_differ (values is) && not (list_any (λ n. nat_eq n (value_ordinal v.value)) (map (λ i. value_ordinal i.value) is)))
+ordinals_more s is v h k =
     ap all_differ (values_append is (v ∷ [])) ∙ differ_more (values is) v.value ∙ ap (λ b. all_differ (values is) && not b) (any_same s is v h k)
 
 -- ---- all of one sort

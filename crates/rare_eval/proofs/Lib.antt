@@ -10,3 +10,4 @@ pub mod WalkLemmas
 pub mod DistinctLemmas
 pub mod CycleLemmas
 pub mod ValueTermLemmas
+pub mod Unrefused

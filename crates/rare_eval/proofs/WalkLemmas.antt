@@ -54,8 +54,8 @@ use Rattle.std.proofs.Math.ListN.{set}
 use Rattle.std.proofs.lemmas.List.{map-append, take_more_set}
 use Rattle.rare_meaning.specs.Splicing.{values, all_differ}
 use Rattle.rare_meaning.specs.Operators.{truth}
-use Rattle.rare_eval.specs.inner.Codes.{value_code}
-use Rattle.rare_eval.proofs.DistinctLemmas.{AreAlike, alike_values, alike_indices, codes_more}
+use Rattle.rare_eval.specs.inner.Ordinals.{value_ordinal}
+use Rattle.rare_eval.proofs.DistinctLemmas.{AreAlike, alike_values, alike_indices, ordinals_more}
 use Rattle.rare_eval.proofs.IndexLemmas.{AreNumbers, are_numbers, no_number}
 
 -- ---- lists of values
@@ -284,7 +284,7 @@ module _ (s : State) (t : Tree) (kept : IsKeptTerm s t) (h : Head) (e : h ≡ he
 
 abbrev pub Seen : Tree → List ℕ → Test → ℕ → Type 0
 Seen t seen differ k =
-    (is : List Item) × (all_of (map evaluation (take k (args_of t))) ≡ Some is) × (map (λ i. value_code i.value) is ≡ take k seen) × (differ ≡ all_differ (values is))
+    (is : List Item) × (all_of (map evaluation (take k (args_of t))) ≡ Some is) × (map (λ i. value_ordinal i.value) is ≡ take k seen) × (differ ≡ all_differ (values is))
 
 module _ (s : State) (t : Tree) (kept : IsKeptTerm s t) (e : head_of t ≡ head.Distinct) where
   distinct_root : IsRooted s.declared t
@@ -299,20 +299,20 @@ module _ (s : State) (t : Tree) (kept : IsKeptTerm s t) (e : head_of t ≡ head.
       (values_are s.declared (take k (args_of t)) (take k distinct_root.sorts) is (first_good s.declared k (args_of t) distinct_root.sorts distinct_root.args) w)
 
   pub seen_more : (k : ℕ) → k < length (args_of t) → (seen : List ℕ) → k < length seen → (differ next : Test) (v : Item) (n : ℕ) → Seen t seen differ k → evaluation (tree_at (args_of t) k) ≡ Some v →
-      n ≡ value_code v.value → next ≡ (differ && not (list_any (λ m. nat_eq m n) (take k seen))) → Seen t (set seen k n) next (k + 1)
-  seen_more k lt seen room differ next v n (is, w, codes, d) ev code step =
+      n ≡ value_ordinal v.value → next ≡ (differ && not (list_any (λ m. nat_eq m n) (take k seen))) → Seen t (set seen k n) next (k + 1)
+  seen_more k lt seen room differ next v n (is, w, ordinals, d) ev ordinal step =
       let new = more_values (args_of t) k is v lt w ev in
       let a = are_alike (k + 1) (is ++ v ∷ []) new in
       let first = Each-front (IsValueOf a.sort) is (v ∷ []) a.all in
       let last = (Each-back (IsValueOf a.sort) is (v ∷ []) a.all).0 in (
         is ++ v ∷ [],
         new,
-        map-append (λ i. value_code i.value) is (v ∷ []) ∙ (λ i. codes i ++ sym code i ∷ []) ∙ sym (take_more_set seen k n room),
-        step ∙ (λ i. d i && not (list_any (λ m. nat_eq m (code i)) (sym codes i))) ∙ sym (codes_more a.sort is v first last),
+        map-append (λ i. value_ordinal i.value) is (v ∷ []) ∙ (λ i. ordinals i ++ sym ordinal i ∷ []) ∙ sym (take_more_set seen k n room),
+        step ∙ (λ i. d i && not (list_any (λ m. nat_eq m (ordinal i)) (sym ordinals i))) ∙ sym (ordinals_more a.sort is v first last),
       )
 
   pub seen_end : (k : ℕ) → length (args_of t) ≤ k → (seen : List ℕ) (differ : Test) → Seen t seen differ k → Some (truth differ) ≡ evaluation t
-  seen_end k le seen differ (is, w, codes, d) =
+  seen_end k le seen differ (is, w, ordinals, d) =
       let all : all_of (map evaluation (args_of t)) ≡ Some is = ap (λ ts. all_of (map evaluation ts)) (sym (take_all k (args_of t) le)) ∙ w in
       let none = alike_indices (slice_get s.declared.symbols) (indices_of t) distinct_root.sorts distinct_root.given.rule alike_rule in
       ap (λ b. Some (truth b)) d ∙ (λ i. evaluated (sym e i) (sym none i) (sym all i)) ∙ sym (evaluation_of t)

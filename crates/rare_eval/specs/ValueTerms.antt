@@ -1,10 +1,12 @@
 -- The one term of a value: `true`, `false`, a numeral, `(- k)` with a numeral k above 0, or a literal of given value and width.
-use Rattle.std.specs.Prelude.{◌≡◌, ℕ, suc, pos, negsuc, true, false, List, [], ◌∷◌, ◌++◌, Some, ◌⊎◌, slice_get}
+use Rattle.std.specs.Prelude.{◌≡◌, ℕ, suc, pos, negsuc, true, false, List, [], ◌∷◌, ◌++◌, Some, None, ◌⊎◌, slice_get}
 use Rattle.rare_linear.specs.Linears.{number}
 use Rattle.rare_sort.specs.Each.{Each}
-use Rattle.rare_sort.specs.Trees.{node, args_of}
+use Rattle.rare_sort.specs.Trees.{node, head_of, indices_of, args_of}
+use Rattle.rare_sort.specs.declared.declarations.Declarations.{Declarations}
 use Rattle.rare_sort.specs.declared.head.Head.TheVariants as head
 use Rattle.rare_sort.specs.declared.tree.Tree.{Tree}
+use Rattle.rare_term.specs.Refusals.{refusal}
 use Rattle.rare_term.specs.State.{State}
 use Rattle.rare_eval.specs.Evaluation.{evaluation}
 use Rattle.rare_eval.specs.Limited.{IsLimited}
@@ -28,6 +30,10 @@ pub record IsValueTerm (t : Tree) : Type 0 where
 -- the term itself, or an argument of it
 abbrev pub IsPartOf : Tree → Tree → Type 0
 IsPartOf t u = (u ≡ t) ⊎ ((k : ℕ) × (slice_get (args_of t) k ≡ Some u))
+
+-- no rule and no limit of terms refuses the term or an argument of it, whatever is declared
+pub record IsNeverRefused (t : Tree) : Type 0 where
+  pub free : (d : Declarations) (u : Tree) → IsPartOf t u → refusal d (head_of u) (indices_of u) (args_of u) ≡ None
 
 -- the declarations stay, and so does each id; what is new is the term or an argument of it
 pub record AddsPartsOf (t : Tree) (old new : State) : Type 0 where

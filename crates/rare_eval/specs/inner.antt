@@ -4,5 +4,5 @@ pub mod Suits
 pub mod Progress
 pub mod Indices
 pub mod Sorted
-pub mod Codes
+pub mod Ordinals
 pub mod Ready

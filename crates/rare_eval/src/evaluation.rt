@@ -15,7 +15,7 @@ ghost use Rattle.rare_eval.specs.inner.Suits.{FewOrTruths};
 ghost use Rattle.rare_eval.specs.inner.Indices.{number_at};
 
 use crate::progress::{Progress, finish, next};
-use crate::values::{Value, code};
+use crate::values::{Value, ordinal};
 use rare_sort::{Head, Sort, TermId, is_same_sort, number_of};
 use rare_term::Terms;
 
@@ -81,7 +81,7 @@ fn distinct<T: Terms>(terms: &T, id: TermId) -> Option<Value>
         let Some(v) = value(terms, terms.arg(id, k)) else {
             return None;
         };
-        let number = code(v);
+        let number = ordinal(v);
         differ = still_differ(differ, &seen[..k], number);
         seen[k] = number;
     }

@@ -7,7 +7,7 @@ ghost use Rattle.rare_term.specs.Literals.{application, IsGiven};
 ghost use Rattle.rare_term.specs.State.{AddsAtMost};
 ghost use Rattle.rare_eval.specs.declared.values.Value.TheVariants as value;
 ghost use Rattle.rare_eval.specs.Limited.{IsLimited};
-ghost use Rattle.rare_eval.specs.ValueTerms.{value_term_of, AddsPartsOf};
+ghost use Rattle.rare_eval.specs.ValueTerms.{value_term_of, AddsPartsOf, IsNeverRefused};
 
 use crate::values::Value;
 use rare_linear::Linear;
@@ -56,7 +56,9 @@ fn whole_term<T: Terms>(terms: &mut T, n: i128) -> Result<TermId, AllocError>
 
 /// The id of the value term of a value within the limits: `true`, `false`, a numeral, `(- k)` with a
 /// numeral k above 0, or a literal of given value and width. It evaluates to the value, and no other
-/// value term does. What is declared stays, and so does every id, also where memory is wanting.
+/// value term does. What is declared stays, and so does every id, also where memory is wanting. No
+/// rule and no limit of terms refuses it, so that an error is want of memory.
+#[tactic(auto, using(crate::proofs::Unrefused::never_refused))]
 pub fn value_term<T: Terms>(
     alloc: Global,
     terms: &mut T,
@@ -66,6 +68,7 @@ pub fn value_term<T: Terms>(
     ensures id { IfOk result (λ id. id.0 < length (T.state terms.new).trees) }
     ensures term { IfOk result (λ id. tree_at (T.state terms.new).trees id.0 ≡ value_term_of value) }
     ensures grows { AddsPartsOf (value_term_of value) (T.state terms.old) (T.state terms.new) }
+    ensures free { IsNeverRefused (value_term_of value) }
 {
     match value {
         Value::Truth(true) => made(terms, Head::True, &[], &[]),

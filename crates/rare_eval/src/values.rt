@@ -4,7 +4,7 @@ ghost use Rattle.rare_meaning.specs.Values.{truth_of, value_eq, whole_of};
 ghost use Rattle.rare_eval.specs.Evaluation.{GREATEST_WHOLE};
 ghost use Rattle.rare_eval.specs.Limited.{IsLimited};
 ghost use Rattle.rare_eval.specs.ValueItems.{value_item};
-ghost use Rattle.rare_eval.specs.inner.Codes.{value_code};
+ghost use Rattle.rare_eval.specs.inner.Ordinals.{value_ordinal};
 
 /// A value that a term without names has: a truth value, a whole number, or a bit vector.
 #[derive(Clone, Copy, Debug, PartialEq, Eq)]
@@ -56,10 +56,11 @@ pub(crate) fn is_same(v: Value, w: Value) -> bool
     }
 }
 
-/// A number by which values of one sort differ.
-pub(crate) fn code(v: Value) -> u128
+/// The place of a value in a list of all values of its sort: false and true; 0, -1, 1, -2, 2 and so
+/// on; bit vectors by their numbers. Values of one sort differ by it.
+pub(crate) fn ordinal(v: Value) -> u128
     requires { IsLimited v }
-    ensures { result ≡ value_code (value_item v).value }
+    ensures { result ≡ value_ordinal (value_item v).value }
 {
     match v {
         Value::Truth(b) => b as u128,

@@ -4,6 +4,7 @@ use Rattle.std.specs.Int.{w128}
 use Rattle.std.specs.Option.{option_map}
 use Rattle.rare_sort.specs.Ids.{tree_at}
 use Rattle.rare_sort.specs.Trees.{args_of}
+use Rattle.rare_term.specs.Limits.{MOST_ARGS}
 use Rattle.rare_eval.specs.Evaluation.{evaluation}
 use Rattle.rare_eval.specs.ValueItems.{value_item}
 use Rattle.rare_eval.proofs.CycleLemmas.{deeper, below, take_length}
@@ -82,21 +83,21 @@ distinct-slice_bounds-seen-end g t c =
     let s = g.T.Terms.state c.args.terms.now in
     let few = ((g.met.T.Terms.lawful c.args.terms.now).terms c.args.id.0 c.requires.id).few in
     let lt = below c.arguments.k c.arg_count-k-end.result _ c.arg_count-k-end.ensures c.arguments-test.true in
-    let long = c.code-number.array_long in
+    let long = c.ordinal-number.array_long in
     omega (arith, lt, few, long)
 
 pub distinct-slice_bounds-still_differ-end : goal.distinct-slice_bounds-still_differ-end
 distinct-slice_bounds-still_differ-end g t c =
     let few = ((g.met.T.Terms.lawful c.args.terms.now).terms c.args.id.0 c.requires.id).few in
     let lt = below c.arguments.k c.arg_count-k-end.result _ c.arg_count-k-end.ensures c.arguments-test.true in
-    let long = c.code-number.array_long in
+    let long = c.ordinal-number.array_long in
     take_length c.arguments.k c.arguments.seen (omega (arith, lt, few, long))
 
 pub distinct-offset_bounds-seen-k : goal.distinct-offset_bounds-seen-k
 distinct-offset_bounds-seen-k g t c =
     let few = ((g.met.T.Terms.lawful c.args.terms.now).terms c.args.id.0 c.requires.id).few in
     let lt = below c.arguments.k c.arg_count-k-end.result _ c.arg_count-k-end.ensures c.arguments-test.true in
-    let small : c.arguments.k < 256 = omega (arith, lt, few) in
+    let small : c.arguments.k < MOST_ARGS = omega (arith, lt, few) in
     omega (arith, small)
 
 pub distinct-bounds-seen-k : goal.distinct-bounds-seen-k
@@ -111,9 +112,9 @@ distinct-arguments-preserved g t c =
     let kept = (g.met.T.Terms.lawful c.args.terms.now).terms c.args.id.0 c.requires.id in
     let few = kept.few in
     let lt = below c.arguments.k c.arg_count-k-end.result _ c.arg_count-k-end.ensures c.arguments-test.true in
-    let long = c.code-number.array_long in
+    let long = c.ordinal-number.array_long in
     seen_more s (tree_at s.trees c.args.id.0) kept c.requires.head c.arguments.k lt c.arguments.seen (omega (arith, lt, few, long)) c.arguments.differ c.still_differ-differ.result
-    (value_item c.in-Some.v) c.code-number.result c.arguments.invariant (ap evaluation (sym c.arg.ensures.tree) ∙ sym c.in-Some.ensures.value) c.code-number.ensures c.still_differ-differ.ensures
+    (value_item c.in-Some.v) c.ordinal-number.result c.arguments.invariant (ap evaluation (sym c.arg.ensures.tree) ∙ sym c.in-Some.ensures.value) c.ordinal-number.ensures c.still_differ-differ.ensures
 
 pub distinct-returns-clause-value : goal.distinct-returns-clause-value
 distinct-returns-clause-value g t c =

@@ -6,7 +6,7 @@ use Rattle.rare_sort.specs.Sorting.{all_of}
 use Rattle.rare_meaning.specs.Settings.{Item}
 use Rattle.rare_meaning.specs.Splicing.{values, all_differ}
 use Rattle.rare_eval.specs.Evaluation.{evaluation}
-use Rattle.rare_eval.specs.inner.Codes.{value_code}
+use Rattle.rare_eval.specs.inner.Ordinals.{value_ordinal}
 use Rattle.rare_eval.specs.inner.Progress.{AreLimited, IsAfter}
 use Rattle.rare_eval.proofs.evaluation.+values.Given as goal
 
@@ -25,4 +25,4 @@ invariant-value-arguments g l = record {
 abbrev pub invariant-distinct-arguments : goal.invariant-distinct-arguments
 invariant-distinct-arguments g l =
     (is : List Item) × (all_of (map evaluation (take l.k (args_of (tree_at (g.T.Terms.state l.terms).trees l.id.0)))) ≡ Some is)
-    × (map (λ i. value_code i.value) is ≡ take l.k l.seen) × (l.differ ≡ all_differ (values is))
+    × (map (λ i. value_ordinal i.value) is ≡ take l.k l.seen) × (l.differ ≡ all_differ (values is))

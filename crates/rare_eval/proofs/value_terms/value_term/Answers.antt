@@ -8,6 +8,7 @@ use Rattle.rare_term.specs.Literals.{application}
 use Rattle.rare_eval.specs.ValueTerms.{value_term_of}
 use Rattle.rare_eval.specs.declared.values.Value.TheVariants as value
 use Rattle.rare_eval.proofs.ValueTermLemmas.{made_true, made_false, made_bits, adds_one, if_ok}
+use Rattle.rare_eval.proofs.Unrefused.{never_refused}
 use Rattle.rare_eval.proofs.value_terms.value_term.Goals as goal
 
 pub returns-in-Truth-true-clause-term : goal.returns-in-Truth-true-clause-term
@@ -41,3 +42,15 @@ returns-in-Bits-clause-grows g c =
     let width : to_z w128 c.in-Bits.width ≡ pos c.in-Bits.width = search rules in
     let is = ap (λ x. application (head.Bits c.in-Bits.value) (x ∷ []) []) (c.constant-index.ensures ∙ ap number width) ∙ made_bits c.in-Bits.width c.in-Bits.value below ∙ ap value_term_of (sym c.in-Bits.is) in
     adds_one _ _ _ _ is c.made-in-Bits.ensures.grows
+
+pub returns-in-Truth-true-clause-free : goal.returns-in-Truth-true-clause-free
+returns-in-Truth-true-clause-free g c = never_refused c.args.value c.requires
+
+pub returns-in-Truth-false-clause-free : goal.returns-in-Truth-false-clause-free
+returns-in-Truth-false-clause-free g c = never_refused c.args.value c.requires
+
+pub returns-in-Whole-clause-free : goal.returns-in-Whole-clause-free
+returns-in-Whole-clause-free g c = never_refused c.args.value c.requires
+
+pub returns-in-Bits-clause-free : goal.returns-in-Bits-clause-free
+returns-in-Bits-clause-free g c = never_refused c.args.value c.requires
