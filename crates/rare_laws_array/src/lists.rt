@@ -12,7 +12,9 @@ use rare_rule::TypedRules;
 use std::alloc::{AllocError, Global};
 
 fn add_all(alloc: Global, all: &mut TypedRules) -> Result<(), AllocError>
-    ensures { OnOk result (all.new ≡ all.old ++ map unconstrained (arr_select_same ∷ arr_select_other ∷ arr_select_ite ∷ arr_store_same ∷ arr_store_select ∷ arr_store_swap ∷ [])) }
+    ensures { OnOk result (all.new ≡ all.old ++ map unconstrained (
+        arr_select_same ∷ arr_select_other ∷ arr_select_ite ∷ arr_store_same ∷
+        arr_store_select ∷ arr_store_swap ∷ [])) }
 {
     all.push(arr_select_same(alloc)?)?;
     all.push(arr_select_other(alloc)?)?;

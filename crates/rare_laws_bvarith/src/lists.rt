@@ -13,7 +13,9 @@ use rare_rule::TypedRules;
 use std::alloc::{AllocError, Global};
 
 fn add_first(alloc: Global, all: &mut TypedRules) -> Result<(), AllocError>
-    ensures { OnOk result (all.new ≡ all.old ++ map unconstrained (bv_add_zero ∷ bv_add_flat ∷ bv_add_cancel ∷ bv_mul_one ∷ bv_mul_zero ∷ bv_neg_elim ∷ bv_sub_elim ∷ bv_ugt_elim ∷ [])) }
+    ensures { OnOk result (all.new ≡ all.old ++ map unconstrained (
+        bv_add_zero ∷ bv_add_flat ∷ bv_add_cancel ∷ bv_mul_one ∷ bv_mul_zero ∷ bv_neg_elim ∷
+        bv_sub_elim ∷ bv_ugt_elim ∷ [])) }
 {
     all.push(bv_add_zero(alloc)?)?;
     all.push(bv_add_flat(alloc)?)?;
@@ -27,7 +29,9 @@ fn add_first(alloc: Global, all: &mut TypedRules) -> Result<(), AllocError>
 }
 
 fn add_second(alloc: Global, all: &mut TypedRules) -> Result<(), AllocError>
-    ensures { OnOk result (all.new ≡ all.old ++ map unconstrained (bv_uge_elim ∷ bv_ule_elim ∷ bv_sgt_elim ∷ bv_ult_refl ∷ bv_ult_zero ∷ bv_udiv_zero ∷ bv_urem_zero ∷ [])) }
+    ensures { OnOk result (all.new ≡ all.old ++ map unconstrained (
+        bv_uge_elim ∷ bv_ule_elim ∷ bv_sgt_elim ∷ bv_ult_refl ∷ bv_ult_zero ∷ bv_udiv_zero ∷
+        bv_urem_zero ∷ [])) }
 {
     all.push(bv_uge_elim(alloc)?)?;
     all.push(bv_ule_elim(alloc)?)?;

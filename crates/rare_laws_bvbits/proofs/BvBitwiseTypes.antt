@@ -48,7 +48,7 @@ bv_and_compl_types =
 pub bv_and_de_morgan_types : Types bv_and_de_morgan []
 unfolding is_entailed is_within
 bv_and_de_morgan_types =
-    types_in _ _ bv_and_de_morgan.left bv_and_de_morgan.right _ (BitVec (name 0)) (BitVec (name 0)) (linear (negsuc 0) ((0, pos 1) ∷ []) ∷ linear (negsuc 0) ((0, pos 1) ∷ []) ∷ linear (negsuc 0) ((0, pos 1) ∷ []) ∷ []) (linear (negsuc 0) ((0, pos 1) ∷ []) ∷ linear (negsuc 0) ((0, pos 1) ∷ []) ∷ []) (linear (negsuc 0) ((0, pos 1) ∷ []) ∷ []) []
+    types_in _ _ bv_and_de_morgan.left bv_and_de_morgan.right _ (BitVec (name 0)) (linear (negsuc 0) ((0, pos 1) ∷ []) ∷ linear (negsuc 0) ((0, pos 1) ∷ []) ∷ linear (negsuc 0) ((0, pos 1) ∷ []) ∷ []) (linear (negsuc 0) ((0, pos 1) ∷ []) ∷ linear (negsuc 0) ((0, pos 1) ∷ []) ∷ []) (linear (negsuc 0) ((0, pos 1) ∷ []) ∷ []) []
     (simp sorting-node (refl, (refl, (refl, tt)), refl))
     (simp sorting-node (refl, (refl, tt), refl))
     (simp sorting-node (refl, (refl, tt), refl)) refl refl

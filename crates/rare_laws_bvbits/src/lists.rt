@@ -17,7 +17,9 @@ use rare_rule::TypedRules;
 use std::alloc::{AllocError, Global};
 
 fn add_first(alloc: Global, all: &mut TypedRules) -> Result<(), AllocError>
-    ensures { OnOk result (all.new ≡ all.old ++ map unconstrained (bv_and_ones ∷ bv_and_zero ∷ bv_and_flat ∷ bv_and_dup ∷ bv_and_compl ∷ bv_and_de_morgan ∷ bv_or_zero ∷ bv_or_ones ∷ [])) }
+    ensures { OnOk result (all.new ≡ all.old ++ map unconstrained (
+        bv_and_ones ∷ bv_and_zero ∷ bv_and_flat ∷ bv_and_dup ∷ bv_and_compl ∷
+        bv_and_de_morgan ∷ bv_or_zero ∷ bv_or_ones ∷ [])) }
 {
     all.push(bv_and_ones(alloc)?)?;
     all.push(bv_and_zero(alloc)?)?;
@@ -31,7 +33,10 @@ fn add_first(alloc: Global, all: &mut TypedRules) -> Result<(), AllocError>
 }
 
 fn add_second(alloc: Global, all: &mut TypedRules) -> Result<(), AllocError>
-    ensures { OnOk result (all.new ≡ all.old ++ (unconstrained bv_or_flat ∷ unconstrained bv_or_compl ∷ unconstrained bv_xor_zero ∷ unconstrained bv_xor_ones ∷ unconstrained bv_xor_dup ∷ unconstrained bv_not_not ∷ unconstrained bv_comp_elim ∷ constrained bv_shl_const bv_shl_const_constraints ∷ [])) }
+    ensures { OnOk result (all.new ≡ all.old ++ (
+        unconstrained bv_or_flat ∷ unconstrained bv_or_compl ∷ unconstrained bv_xor_zero ∷
+        unconstrained bv_xor_ones ∷ unconstrained bv_xor_dup ∷ unconstrained bv_not_not ∷
+        unconstrained bv_comp_elim ∷ constrained bv_shl_const bv_shl_const_constraints ∷ [])) }
 {
     all.push(bv_or_flat(alloc)?)?;
     all.push(bv_or_compl(alloc)?)?;
@@ -45,7 +50,13 @@ fn add_second(alloc: Global, all: &mut TypedRules) -> Result<(), AllocError>
 }
 
 fn add_third(alloc: Global, all: &mut TypedRules) -> Result<(), AllocError>
-    ensures { OnOk result (all.new ≡ all.old ++ (constrained bv_lshr_const bv_lshr_const_constraints ∷ unconstrained bv_extract_whole ∷ constrained bv_extract_extract bv_extract_extract_constraints ∷ constrained bv_extract_concat_low bv_extract_concat_low_constraints ∷ constrained bv_extract_concat_high bv_extract_concat_high_constraints ∷ constrained bv_concat_extract bv_concat_extract_constraints ∷ constrained bv_zero_extend bv_zero_extend_constraints ∷ [])) }
+    ensures { OnOk result (all.new ≡ all.old ++ (
+        constrained bv_lshr_const bv_lshr_const_constraints ∷ unconstrained bv_extract_whole ∷
+        constrained bv_extract_extract bv_extract_extract_constraints ∷
+        constrained bv_extract_concat_low bv_extract_concat_low_constraints ∷
+        constrained bv_extract_concat_high bv_extract_concat_high_constraints ∷
+        constrained bv_concat_extract bv_concat_extract_constraints ∷
+        constrained bv_zero_extend bv_zero_extend_constraints ∷ [])) }
 {
     all.push(bv_lshr_const(alloc)?)?;
     all.push(bv_extract_whole(alloc)?)?;

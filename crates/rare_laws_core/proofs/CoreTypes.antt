@@ -86,14 +86,14 @@ bool_or_comm_types =
 
 pub bool_and_de_morgan_types : Types bool_and_de_morgan []
 bool_and_de_morgan_types =
-    types_in _ _ bool_and_de_morgan.left bool_and_de_morgan.right _ Bool Bool [] [] [] []
+    types_in _ _ bool_and_de_morgan.left bool_and_de_morgan.right _ Bool [] [] [] []
     (simp sorting-node (refl, (refl, (refl, (refl, (refl, tt)))), refl))
     (simp sorting-node (refl, (refl, (refl, (refl, tt))), refl))
     (simp sorting-node (refl, (refl, (refl, (refl, tt))), refl)) refl refl
 
 pub bool_or_de_morgan_types : Types bool_or_de_morgan []
 bool_or_de_morgan_types =
-    types_in _ _ bool_or_de_morgan.left bool_or_de_morgan.right _ Bool Bool [] [] [] []
+    types_in _ _ bool_or_de_morgan.left bool_or_de_morgan.right _ Bool [] [] [] []
     (simp sorting-node (refl, (refl, (refl, (refl, (refl, tt)))), refl))
     (simp sorting-node (refl, (refl, (refl, (refl, tt))), refl))
     (simp sorting-node (refl, (refl, (refl, (refl, tt))), refl)) refl refl

@@ -15,7 +15,9 @@ use rare_rule::TypedRules;
 use std::alloc::{AllocError, Global};
 
 fn add_first(alloc: Global, all: &mut TypedRules) -> Result<(), AllocError>
-    ensures { OnOk result (all.new ≡ all.old ++ map unconstrained (bool_not_not ∷ bool_and_true ∷ bool_and_false ∷ bool_and_flat ∷ bool_and_dup ∷ bool_and_conf ∷ bool_or_false ∷ bool_or_true ∷ [])) }
+    ensures { OnOk result (all.new ≡ all.old ++ map unconstrained (
+        bool_not_not ∷ bool_and_true ∷ bool_and_false ∷ bool_and_flat ∷ bool_and_dup ∷
+        bool_and_conf ∷ bool_or_false ∷ bool_or_true ∷ [])) }
 {
     all.push(bool_not_not(alloc)?)?;
     all.push(bool_and_true(alloc)?)?;
@@ -29,7 +31,9 @@ fn add_first(alloc: Global, all: &mut TypedRules) -> Result<(), AllocError>
 }
 
 fn add_second(alloc: Global, all: &mut TypedRules) -> Result<(), AllocError>
-    ensures { OnOk result (all.new ≡ all.old ++ map unconstrained (bool_or_flat ∷ bool_or_dup ∷ bool_or_taut ∷ bool_and_comm ∷ bool_or_comm ∷ bool_and_de_morgan ∷ bool_or_de_morgan ∷ bool_impl_elim ∷ [])) }
+    ensures { OnOk result (all.new ≡ all.old ++ map unconstrained (
+        bool_or_flat ∷ bool_or_dup ∷ bool_or_taut ∷ bool_and_comm ∷ bool_or_comm ∷
+        bool_and_de_morgan ∷ bool_or_de_morgan ∷ bool_impl_elim ∷ [])) }
 {
     all.push(bool_or_flat(alloc)?)?;
     all.push(bool_or_dup(alloc)?)?;
@@ -43,7 +47,9 @@ fn add_second(alloc: Global, all: &mut TypedRules) -> Result<(), AllocError>
 }
 
 fn add_third(alloc: Global, all: &mut TypedRules) -> Result<(), AllocError>
-    ensures { OnOk result (all.new ≡ all.old ++ map unconstrained (bool_xor_false ∷ bool_xor_true ∷ bool_xor_refl ∷ ite_true ∷ ite_false ∷ ite_same ∷ ite_not ∷ ite_bool ∷ [])) }
+    ensures { OnOk result (all.new ≡ all.old ++ map unconstrained (
+        bool_xor_false ∷ bool_xor_true ∷ bool_xor_refl ∷ ite_true ∷ ite_false ∷ ite_same ∷
+        ite_not ∷ ite_bool ∷ [])) }
 {
     all.push(bool_xor_false(alloc)?)?;
     all.push(bool_xor_true(alloc)?)?;
@@ -57,7 +63,9 @@ fn add_third(alloc: Global, all: &mut TypedRules) -> Result<(), AllocError>
 }
 
 fn add_fourth(alloc: Global, all: &mut TypedRules) -> Result<(), AllocError>
-    ensures { OnOk result (all.new ≡ all.old ++ map unconstrained (ite_then ∷ ite_else ∷ ite_cond ∷ eq_refl ∷ eq_symm ∷ eq_true ∷ eq_false ∷ distinct_elim ∷ [])) }
+    ensures { OnOk result (all.new ≡ all.old ++ map unconstrained (
+        ite_then ∷ ite_else ∷ ite_cond ∷ eq_refl ∷ eq_symm ∷ eq_true ∷ eq_false ∷
+        distinct_elim ∷ [])) }
 {
     all.push(ite_then(alloc)?)?;
     all.push(ite_else(alloc)?)?;

@@ -14,7 +14,7 @@ types_if_both : (n : List ℕ) (ps : List Param) (p q l r : Tree) (s : Sort) →
     Finds (sorting (rule_scope ps None) l) s [] → Finds (sorting (rule_scope ps None) p) Bool [] → Finds (sorting (rule_scope ps None) q) Bool [] →
     Finds (sorting (rule_scope ps None) r) s [] → Types (rule_if_both n ps p q l r) []
 types_if_both n ps p q l r s left first second right = record {
-  typed = record { left_sort = s; right_sort = s; left = shaped _ l s [] left; right = shaped _ r s [] right; context = refl; premises = (shaped _ p Bool [] first, (shaped _ q Bool [] second, tt)) };
+  typed = record { sort = s; left = shaped _ l s [] left; right = shaped _ r s [] right; context = tt; premises = (shaped _ p Bool [] first, (shaped _ q Bool [] second, tt)) };
   same = refl;
   possible = refl;
 }

@@ -13,7 +13,9 @@ use rare_rule::TypedRules;
 use std::alloc::{AllocError, Global};
 
 fn add_first(alloc: Global, all: &mut TypedRules) -> Result<(), AllocError>
-    ensures { OnOk result (all.new ≡ all.old ++ map unconstrained (int_add_zero ∷ int_add_flat ∷ int_add_comm ∷ int_add_cancel ∷ int_mul_one ∷ int_mul_zero ∷ int_minus_self ∷ [])) }
+    ensures { OnOk result (all.new ≡ all.old ++ map unconstrained (
+        int_add_zero ∷ int_add_flat ∷ int_add_comm ∷ int_add_cancel ∷ int_mul_one ∷
+        int_mul_zero ∷ int_minus_self ∷ [])) }
 {
     all.push(int_add_zero(alloc)?)?;
     all.push(int_add_flat(alloc)?)?;
@@ -26,7 +28,9 @@ fn add_first(alloc: Global, all: &mut TypedRules) -> Result<(), AllocError>
 }
 
 fn add_second(alloc: Global, all: &mut TypedRules) -> Result<(), AllocError>
-    ensures { OnOk result (all.new ≡ all.old ++ map unconstrained (int_sub_elim ∷ int_neg_neg ∷ int_distrib ∷ int_gt_elim ∷ int_lt_elim ∷ int_ge_elim ∷ int_le_refl ∷ [])) }
+    ensures { OnOk result (all.new ≡ all.old ++ map unconstrained (
+        int_sub_elim ∷ int_neg_neg ∷ int_distrib ∷ int_gt_elim ∷ int_lt_elim ∷ int_ge_elim ∷
+        int_le_refl ∷ [])) }
 {
     all.push(int_sub_elim(alloc)?)?;
     all.push(int_neg_neg(alloc)?)?;
@@ -39,7 +43,8 @@ fn add_second(alloc: Global, all: &mut TypedRules) -> Result<(), AllocError>
 }
 
 fn add_third(alloc: Global, all: &mut TypedRules) -> Result<(), AllocError>
-    ensures { OnOk result (all.new ≡ all.old ++ map unconstrained (int_div_one ∷ int_mod_one ∷ int_mod_small ∷ int_div_self ∷ int_mod_mod ∷ int_abs_elim ∷ [])) }
+    ensures { OnOk result (all.new ≡ all.old ++ map unconstrained (
+        int_div_one ∷ int_mod_one ∷ int_mod_small ∷ int_div_self ∷ int_mod_mod ∷ int_abs_elim ∷ [])) }
 {
     all.push(int_div_one(alloc)?)?;
     all.push(int_mod_one(alloc)?)?;

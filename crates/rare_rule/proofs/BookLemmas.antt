@@ -1,5 +1,5 @@
 -- Names of the rules of a book.
-use Rattle.std.proofs.Common.{◌≡◌, ℕ, ◌-◌, Bool, false, IsTrue, Result, Ok, Err, List, [], ◌∷◌, ◌++◌, length, Some, refl, ap, ◌∙◌, sym, position, bytes_eq, slice_get, arith}
+use Rattle.std.proofs.Common.{◌≡◌, ℕ, ◌-◌, Bool, false, IsTrue, Result, Ok, Err, List, [], ◌∷◌, ◌++◌, length, Some, refl, ap, ◌∙◌, sym, position, bytes_eq, slice_get, arith, subst}
 use Rattle.std.specs.List.{list_any}
 use Rattle.std.proofs.lemmas.List.{map-append, length_push}
 use Rattle.std.proofs.lemmas.Option.{same_Some}
@@ -7,8 +7,9 @@ use Rattle.rare_rule.specs.declared.book.BookError.{BookError}
 use Rattle.rare_rule.specs.declared.book.BookError.TheVariants.{DuplicateName, Memory}
 use Rattle.rare_rule.specs.inner.Entries.{rules_of}
 use Rattle.rare_rule.specs.declared.book.Entry.{Entry}
+use Rattle.rare_rule.specs.TypedRule.{IsTypedRule}
 use Rattle.rare_names.proofs.Lookups.{position-map, any-map}
-use Rattle.rare_rule.specs.Books.{BookRule, book_rule, rule_name, rule_names, has_name, is_name_in}
+use Rattle.rare_rule.specs.Books.{BookRule, AreTyped, book_rule, rule_name, rule_names, has_name, is_name_in}
 
 pub place : (name : List ℕ) (names : List (List ℕ)) (bs now : List BookRule) → names ≡ rule_names bs → bs ≡ now → position (bytes_eq name) names ≡ position (has_name name) now
 place name names bs now are is =
@@ -39,6 +40,14 @@ grown names new name es all e are is behind same =
     ∙ sym (map-append rule_name (rules_of es) (book_rule e.typed e.shipped ∷ []))
     ∙ ap rule_names (sym (map-append (λ (x : Entry). book_rule x.typed x.shipped) es (e ∷ [])))
     ∙ ap (λ xs. rule_names (rules_of xs)) (sym is)
+
+typed_more : (es : List Entry) (e : Entry) → AreTyped (rules_of es) → IsTypedRule e.typed → AreTyped (rules_of (es ++ e ∷ []))
+typed_more [] e all last = (last, tt)
+typed_more (x ∷ es) e all last = (all.0, typed_more es e all.1 last)
+
+-- with one typed rule more, each rule is typed
+pub grown_typed : (es all : List Entry) (e : Entry) → AreTyped (rules_of es) → all ≡ es ++ e ∷ [] → IsTypedRule e.typed → AreTyped (rules_of all)
+grown_typed es all e typed is last = subst (λ xs. AreTyped (rules_of xs)) (sym is) (typed_more es e typed last)
 
 -- the answer of the table of names, for the name of a rule
 pub found : (name asked : List ℕ) (names : List (List ℕ)) (bs now : List BookRule) (answer : Bool) → answer ≡ list_any (bytes_eq asked) names → asked ≡ name → names ≡ rule_names bs → bs ≡ now → answer ≡ is_name_in name now

@@ -20,7 +20,7 @@ ite_cond_types =
 
 pub and_de_morgan_types : Types and_de_morgan []
 and_de_morgan_types =
-    types_in _ _ and_de_morgan.left and_de_morgan.right _ Bool Bool [] [] [] [] (simp sorting-node (refl, (refl, (refl, (refl, (refl, tt)))), refl))
+    types_in _ _ and_de_morgan.left and_de_morgan.right _ Bool [] [] [] [] (simp sorting-node (refl, (refl, (refl, (refl, (refl, tt)))), refl))
     (simp sorting-node (refl, (refl, (refl, (refl, tt))), refl)) (simp sorting-node (refl, (refl, (refl, (refl, tt))), refl)) refl refl
 
 -- n - 1, and n - k - 1

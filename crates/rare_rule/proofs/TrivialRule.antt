@@ -15,11 +15,10 @@ trivial name = plain_rule name [] [] (apply head.True []) (apply head.True [])
 trivial_types : (name : List ℕ) → Types (trivial name) []
 trivial_types name = record {
   typed = record {
-    left_sort = Bool;
-    right_sort = Bool;
+    sort = Bool;
     left = shaped _ (apply head.True []) Bool [] (simp sorting-node (refl, tt, refl));
     right = shaped _ (apply head.True []) Bool [] (simp sorting-node (refl, tt, refl));
-    context = refl;
+    context = tt;
     premises = tt;
   };
   same = refl;

@@ -43,7 +43,7 @@ pub plain_types : (n : List ℕ) (ps : List Param) (bs : List Constraint) (l r :
     Finds (sorting (rule_scope ps None) l) s ls → Finds (sorting (rule_scope ps None) r) s rs →
     cs ≡ constraints_after (rule_lows ps) [] (map (λ c. c.floor) bs ++ (ls ++ (rs ++ []))) → IsTrue (all_have_names cs) → Types (plain_rule n ps bs l r) cs
 plain_types n ps bs l r s ls rs cs left right same possible = record {
-  typed = record { left_sort = s; right_sort = s; left = shaped _ l s ls left; right = shaped _ r s rs right; context = refl; premises = tt };
+  typed = record { sort = s; left = shaped _ l s ls left; right = shaped _ r s rs right; context = tt; premises = tt };
   same = same;
   possible = possible;
 }
@@ -52,16 +52,16 @@ pub types_if : (n : List ℕ) (ps : List Param) (p l r : Tree) (s : Sort) (ls ns
     Finds (sorting (rule_scope ps None) l) s ls → Finds (sorting (rule_scope ps None) p) Bool ns → Finds (sorting (rule_scope ps None) r) s rs →
     cs ≡ constraints_after (rule_lows ps) [] (ls ++ ((ns ++ []) ++ (rs ++ []))) → IsTrue (all_have_names cs) → Types (rule_if n ps p l r) cs
 types_if n ps p l r s ls ns rs cs left premise right same possible = record {
-  typed = record { left_sort = s; right_sort = s; left = shaped _ l s ls left; right = shaped _ r s rs right; context = refl; premises = (shaped _ p Bool ns premise, tt) };
+  typed = record { sort = s; left = shaped _ l s ls left; right = shaped _ r s rs right; context = tt; premises = (shaped _ p Bool ns premise, tt) };
   same = same;
   possible = possible;
 }
 
-pub types_in : (n : List ℕ) (ps : List Param) (l r c : Tree) (s t : Sort) (ls rs ns : List LinearExpression) (cs : List Constraint) →
-    Finds (sorting (rule_scope ps None) l) s ls → Finds (sorting (rule_scope ps None) r) t rs → Finds (sorting (rule_scope ps (Some (sorting_of (One t) []))) c) s ns →
+pub types_in : (n : List ℕ) (ps : List Param) (l r c : Tree) (s : Sort) (ls rs ns : List LinearExpression) (cs : List Constraint) →
+    Finds (sorting (rule_scope ps None) l) s ls → Finds (sorting (rule_scope ps None) r) s rs → Finds (sorting (rule_scope ps (Some (sorting_of (One s) []))) c) s ns →
     cs ≡ constraints_after (rule_lows ps) [] (ls ++ (rs ++ ns)) → IsTrue (all_have_names cs) → Types (rule_in n ps l r c) cs
-types_in n ps l r c s t ls rs ns cs left right context same possible = record {
-  typed = record { left_sort = s; right_sort = t; left = shaped _ l s ls left; right = shaped _ r t rs right; context = shaped _ c s ns context; premises = tt };
+types_in n ps l r c s ls rs ns cs left right context same possible = record {
+  typed = record { sort = s; left = shaped _ l s ls left; right = shaped _ r s rs right; context = shaped _ c s ns context; premises = tt };
   same = same;
   possible = possible;
 }

@@ -2,7 +2,8 @@
 use Rattle.std.specs.Prelude.{ℕ, Bool, List, map, bytes_eq, slice_get, Option}
 use Rattle.std.specs.Option.{option_map}
 use Rattle.std.specs.List.{list_any}
-use Rattle.rare_rule.specs.TypedRule.{TypedRule}
+use Rattle.rare_sort.specs.Each.{Each}
+use Rattle.rare_rule.specs.TypedRule.{TypedRule, IsTypedRule}
 
 pub record BookRule : Type 0 where
   pub typed : TypedRule
@@ -30,3 +31,7 @@ typed_at bs k = option_map (λ b. b.typed) (slice_get bs k)
 
 abbrev pub shipped_at : List BookRule → ℕ → Option Bool
 shipped_at bs k = option_map (λ b. b.shipped) (slice_get bs k)
+
+-- each rule is in form, with the constraints of its typing
+abbrev pub AreTyped : List BookRule → Type 0
+AreTyped bs = Each (λ b. IsTypedRule b.typed) bs

@@ -43,18 +43,17 @@ rule_scope ps hole = record {
 abbrev pub TypesAs : Rule → Tree → Sort → Type 0
 TypesAs r t s = IsShaped (rule_scope r.params None) t s
 
--- the context with the right side's sort in its hole has the left side's sort; without a context both sorts are one
-abbrev pub FitsContext : Rule → Option Tree → (left right : Sort) → Type 0
-FitsContext r None left right = right ≡ left
-FitsContext r (Some t) left right = IsShaped (rule_scope r.params (Some (sorting_of (One right) []))) t left
+-- the context with a hole of the rule's sort has that sort
+abbrev pub FitsContext : Rule → Option Tree → Sort → Type 0
+FitsContext r None s = Unit {0}
+FitsContext r (Some t) s = IsShaped (rule_scope r.params (Some (sorting_of (One s) []))) t s
 
--- both sides, the context and the premises have their sorts
+-- left, right, hole and context have one sort, and premises are truths
 pub record IsTyped (r : Rule) : Type 0 where
-  pub left_sort : Sort
-  pub right_sort : Sort
-  pub left : TypesAs r r.left left_sort
-  pub right : TypesAs r r.right right_sort
-  pub context : FitsContext r r.context left_sort right_sort
+  pub sort : Sort
+  pub left : TypesAs r r.left sort
+  pub right : TypesAs r r.right sort
+  pub context : FitsContext r r.context sort
   pub premises : Each (λ p. TypesAs r p Bool) r.premises
 
 -- ---- constraints
@@ -64,15 +63,15 @@ abbrev pub premise_needs : (r : Rule) → (ps : List Tree) → Each (λ p. Types
 premise_needs r [] h = []
 premise_needs r (p ∷ ps) h = h.0.needs ++ premise_needs r ps h.1
 
-abbrev pub context_needs : (r : Rule) → (c : Option Tree) → (left right : Sort) → FitsContext r c left right → List LinearExpression
-context_needs r None left right h = []
-context_needs r (Some t) left right h = h.needs
+abbrev pub context_needs : (r : Rule) → (c : Option Tree) → (s : Sort) → FitsContext r c s → List LinearExpression
+context_needs r None s h = []
+context_needs r (Some t) s h = h.needs
 
 -- all that a rule asks to be at least 0, in order: bounds, left, premises, right, context
 abbrev pub rule_needs : (r : Rule) → IsTyped r → List LinearExpression
 rule_needs r h =
     map (λ c. c.floor) r.bounds
-    ++ (h.left.needs ++ (premise_needs r r.premises h.premises ++ (h.right.needs ++ context_needs r r.context h.left_sort h.right_sort h.context)))
+    ++ (h.left.needs ++ (premise_needs r r.premises h.premises ++ (h.right.needs ++ context_needs r r.context h.sort h.context)))
 
 abbrev pub at_least_zero : LinearExpression → Constraint
 at_least_zero e = record { floor = e }

@@ -1,6 +1,6 @@
 //! Rules in the order in which they were added, each found by its name.
 ghost use Rattle.std.specs.Prelude.{◌≡◌, ◌↔◌, ◌<◌, [], ◌∷◌, ◌++◌, length, Some, Err, IsTrue, position, slice_get, OnOk, OnErr};
-ghost use Rattle.rare_rule.specs.Books.{book_rule, has_name, is_name_in, typed_at, shipped_at};
+ghost use Rattle.rare_rule.specs.Books.{AreTyped, book_rule, has_name, is_name_in, typed_at, shipped_at};
 ghost use Rattle.rare_rule.specs.declared.book.BookError.TheVariants.{DuplicateName};
 
 use crate::typed::Typed;
@@ -41,7 +41,7 @@ impl Model for Book {
     ghost use Rattle.std.specs.Coded.{codes};
     ghost use Rattle.rare_sort.specs.contracts.sort.Sort as sort;
     ghost use Rattle.rare_sort.specs.contracts.tree.Tree as tree;
-    ghost use Rattle.rare_rule.specs.Books.{BookRule, rule_names};
+    ghost use Rattle.rare_rule.specs.Books.{BookRule, AreTyped, rule_names};
     ghost use Rattle.rare_rule.specs.inner.Entries.{rules_of};
 
     ghost Value = { List BookRule };
@@ -50,7 +50,7 @@ impl Model for Book {
 
     ghost view = { λ b. rules_of b.entries };
 
-    ghost invariant = { λ b. b.names ≡ rule_names (rules_of b.entries) };
+    ghost invariant = { λ b. (b.names ≡ rule_names (rules_of b.entries)) × AreTyped (rules_of b.entries) };
 }
 
 impl Book {
@@ -64,9 +64,10 @@ impl Book {
         }
     }
 
-    /// How many rules there are.
+    /// How many rules there are. Each is in form and types.
     pub fn len(&self) -> usize
-        ensures { result ≡ length self.now }
+        ensures count { result ≡ length self.now }
+        ensures typed { AreTyped self.now }
     {
         self.entries.len()
     }

@@ -19,9 +19,7 @@ impl Model for Typed {
     ghost use Rattle.std.specs.Coded.{codes};
     ghost use Rattle.rare_sort.specs.contracts.sort.Sort as sort;
     ghost use Rattle.rare_sort.specs.contracts.tree.Tree as tree;
-    ghost use Rattle.rare_rule.specs.Rules.{IsInForm};
-    ghost use Rattle.rare_rule.specs.RuleSorting.{Types};
-    ghost use Rattle.rare_rule.specs.TypedRule.{TypedRule};
+    ghost use Rattle.rare_rule.specs.TypedRule.{TypedRule, IsTypedRule};
 
     ghost Value = { TypedRule };
 
@@ -29,7 +27,7 @@ impl Model for Typed {
 
     ghost view = { λ t. record { rule = t.rule; constraints = t.constraints } };
 
-    ghost invariant = { λ t. IsInForm t.rule × Types t.rule t.constraints };
+    ghost invariant = { λ t. IsTypedRule (record { rule = t.rule; constraints = t.constraints }) };
 }
 
 /// A list of rules with their typing.
