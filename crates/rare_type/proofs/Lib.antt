@@ -1,0 +1,11 @@
+pub mod Typed
+pub mod Shifts
+pub mod Sorts
+pub mod Nodes
+pub mod Keeping
+pub mod Following
+pub mod TreeCases
+pub mod Sound
+pub mod Complete
+pub mod SortsOver
+pub mod Numbers

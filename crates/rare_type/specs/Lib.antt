@@ -1,0 +1,4 @@
+pub mod FirstCase
+pub mod TypeAnswers
+pub mod TypingLaws
+pub mod inner
