@@ -1,0 +1,26 @@
+pub mod FormLinear
+pub mod FormNumbers
+pub mod FormTables
+pub mod FormSorts
+pub mod FormParamSteps
+pub mod FormPlaces
+pub mod FormParams
+pub mod FormBounds
+pub mod FormHeads
+pub mod FormLiterals
+pub mod FormTerms
+pub mod FormWhole
+pub mod Tables
+pub mod SortSteps
+pub mod ParamSteps
+pub mod MeasureLemmas
+pub mod OperatorSteps
+pub mod LiteralSteps
+pub mod TermSteps
+pub mod BoundSteps
+pub mod NodeLemmas
+pub mod FollowLemmas
+pub mod TreeMentions
+pub mod WholeLemmas
+pub mod RuleSteps
+mod ReducedValues

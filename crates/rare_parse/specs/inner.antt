@@ -1,0 +1,6 @@
+pub mod SortReading
+pub mod ParamReading
+pub mod TermReading
+pub mod WholeTests
+pub mod Following
+pub mod RuleReading
