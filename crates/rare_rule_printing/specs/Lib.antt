@@ -1,0 +1,4 @@
+pub mod ConstraintPrinting
+pub mod SortPrinting
+pub mod RulePrinting
+pub mod inner

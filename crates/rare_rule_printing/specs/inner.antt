@@ -1,0 +1,3 @@
+pub mod RulePieces
+pub mod Printable
+pub mod PrintedRules
