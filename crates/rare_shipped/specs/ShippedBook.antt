@@ -1,8 +1,9 @@
 -- The book of the shipped rules: Core, Ints, arrays, arithmetic on bit vectors, and bits, slices and joins.
-use Rattle.std.specs.Prelude.{true, List, ◌++◌, map}
+use Rattle.std.specs.Prelude.{true, List, [], ◌++◌, map, IsTrue}
 use Rattle.rare_sort.specs.Each.{Each}
 use Rattle.rare_meaning.specs.Interpretations.{FunctionClass}
-use Rattle.rare_rule.specs.Books.{BookRule, book_rule}
+use Rattle.rare_rule.specs.Books.{BookRule, book_rule, rule_names}
+use Rattle.rare_rule.specs.ParamForms.{all_differ_from}
 use Rattle.rare_rule.specs.Holds.{Holds}
 use Rattle.rare_rule.specs.TypedRule.{TypedRule}
 use Rattle.rare_laws_core.specs.CoreTable.{core_rules}
@@ -27,3 +28,7 @@ shipped_book =
 -- each rule of the book holds, by the functions of the class
 abbrev pub HoldIn : FunctionClass → List BookRule → Type 0
 HoldIn c bs = Each (λ b. Holds c b.typed.rule b.typed.constraints) bs
+
+-- no two rules of the book have one name
+abbrev pub NamesDiffer : List BookRule → Type 0
+NamesDiffer bs = IsTrue (all_differ_from [] (rule_names bs))

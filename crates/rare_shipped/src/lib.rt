@@ -3,7 +3,7 @@
 
 ghost use Rattle.std.specs.Prelude.{◌≡◌, ◌++◌, IfOk, OnOk, length};
 ghost use Rattle.rare_meaning.specs.Interpretations.{FunctionClass};
-ghost use Rattle.rare_shipped.specs.ShippedBook.{HoldIn, shipped_book, shipped_rules};
+ghost use Rattle.rare_shipped.specs.ShippedBook.{HoldIn, NamesDiffer, shipped_book, shipped_rules};
 
 use rare_rule::{Book, TypedRules};
 use std::alloc::{AllocError, Global};
@@ -37,15 +37,18 @@ fn book_of_rules(alloc: Global) -> Result<Book, AllocError>
 }
 
 /// The 96 shipped rules in order, each marked as shipped. An error is want of memory.
-#[tactic(auto, using(crate::proofs::ShippedLemmas::book_length, crate::proofs::ShippedLemmas::book_holds))]
+#[tactic(auto, using(crate::proofs::ShippedLemmas::book_length, crate::proofs::ShippedLemmas::book_names, crate::proofs::ShippedLemmas::book_holds))]
 pub fn shipped(alloc: Global) -> Result<Book, AllocError>
     ensures exact { IfOk result (λ book. book ≡ shipped_book) }
     ensures count { IfOk result (λ book. length book ≡ 96) }
+    ensures names { IfOk result NamesDiffer }
     ensures hold { IfOk result (λ book. (c : FunctionClass) → HoldIn c book) }
 {
     let book = book_of_rules(alloc)?;
     Ok(book)
 }
 
+#[cfg(test)]
+mod table;
 #[cfg(test)]
 mod tests;

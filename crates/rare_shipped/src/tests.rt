@@ -1,5 +1,9 @@
-//! The book that is shipped: names, places and how many constraints there are.
+//! The book that is shipped: names, places, how many constraints there are, and each rule as it is
+//! printed.
 use super::*;
+use crate::table::TABLE;
+use rare_base::Text;
+use rare_rule_printing::print_rule;
 use std::test::Fail;
 
 #[test]
@@ -23,5 +27,18 @@ fn the_rules_stand_in_order(rt: HostRuntime) -> Result<(), Fail> {
         assert_eq!(rt; book.rule(place).constraints().len(), constraints, "{name}");
     }
     assert_eq!(rt; book.find(b"bv-or-dup".as_slice()), None);
+    Ok(())
+}
+
+#[test]
+fn the_rules_are_those_of_the_table(rt: HostRuntime) -> Result<(), Fail> {
+    let alloc = rt.alloc();
+    let book = shipped(alloc)?;
+    assert_eq!(rt; book.len(), TABLE.len());
+    for k in 0..book.len() {
+        let mut text = Text::new(alloc);
+        print_rule(book.rule(k).rule(), &mut text)?;
+        assert_eq!(rt; text.bytes(), TABLE[k].as_bytes(), "{k}");
+    }
     Ok(())
 }
