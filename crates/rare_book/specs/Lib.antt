@@ -1,0 +1,2 @@
+pub mod RuleFile
+pub mod inner
