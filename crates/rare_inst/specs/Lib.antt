@@ -1,0 +1,11 @@
+pub mod Arguments
+pub mod Substituting
+pub mod Admission
+pub mod Collapse
+pub mod Instance
+pub mod Answers
+pub mod Induced
+pub mod InstanceLaws
+pub mod InstanceRows
+pub mod AdmissionRows
+pub mod inner

@@ -1,0 +1,4 @@
+pub mod Standing
+pub mod RuleTrees
+pub mod Sites
+pub mod Making
