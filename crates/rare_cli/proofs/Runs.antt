@@ -18,11 +18,11 @@ use Rattle.rare_cli.specs.declared.outcome.File.{File}
 use Rattle.rare_cli.specs.declared.outcome.Stop.{Stop}
 use Rattle.rare_cli.specs.declared.outcome.Stop.TheVariants.{BadWords, ReadFault, TooLong, Refused, Memory}
 use Rattle.rare_cli.specs.declared.outcome.Answer.{Answer}
-use Rattle.rare_cli.specs.WordForms.{Names, form_of}
+use Rattle.rare_cli.specs.WordForms.{Names, check, types, form_of}
 use Rattle.rare_cli.specs.Outcomes.{Outcome, stop_outcome, report_lines, report_text, report_status, report_outcome}
 use Rattle.rare_cli.specs.Calls.{Files, IsQuiet, Tells}
-use Rattle.rare_cli.specs.Causes.{IsLong, Allowed, bad_words, stopped, answered}
-use Rattle.rare_cli.specs.inner.Prepared.{answer_outcome, Becomes, IsTextOf, IsChecked, outcome_in, stop_of_read}
+use Rattle.rare_cli.specs.Causes.{IsLong, Allowed, bad_words, stopped, answered, listed}
+use Rattle.rare_cli.specs.inner.Prepared.{answer_outcome, Becomes, IsTextOf, IsChecked, IsListed, outcome_in, stop_of_read}
 
 -- a text under a name, whether it is told or not
 some_long : (told : Option (List ℕ)) (n : ℕ) → IfSome told (λ all. n < length all) → (text : List ℕ) × Tells told text × (n < length text)
@@ -65,17 +65,24 @@ answer_of_report s p names a report e text status =
     λ i. record { text = full i; status = status i }
 
 -- what is checked is allowed
-pub checked_allowed : (files : Files) (words : List (List ℕ)) (names : Names) (result : Result Answer Stop) → form_of words ≡ Some names →
+pub checked_allowed : (files : Files) (words : List (List ℕ)) (names : Names) (result : Result Answer Stop) → form_of words ≡ Some (check names) →
     IsChecked files names result → Allowed files words (outcome_in result)
 checked_allowed files words names (Ok a) form h = answered names form h.0 h.1 h.2 h.3
-checked_allowed files words names (Err stop) form h = stopped names form stop h refl
+checked_allowed files words names (Err stop) form h = stopped (check names) form stop h refl
+
+-- what is listed is allowed
+pub listed_allowed : (files : Files) (words : List (List ℕ)) (rules : Option (List ℕ)) (result : Result Answer Stop) → form_of words ≡ Some (types rules) →
+    IsListed files rules result → Allowed files words (outcome_in result)
+listed_allowed files words rules (Ok a) form h = listed rules form h.0 h.1 h.2 h.3
+listed_allowed files words rules (Err stop) form h = stopped (types rules) form stop h refl
 
 -- want of memory may come in place of a line
 memory_instead : (files : Files) (words : List (List ℕ)) (stop : Stop) (o : Outcome) → (stop_outcome stop).status ≡ status.BadText → Allowed files words (stop_outcome stop) → o ≡ stop_outcome Memory →
     Allowed files words o
 memory_instead files words stop o bad (bad_words none is) e = absurd (let s : status.BadText ≡ status.BadWords = sym bad ∙ ap (λ x. x.status) is in cc)
 memory_instead files words stop o bad (stopped names form other cause is) e = stopped names form Memory tt e
-memory_instead files words stop o bad (answered names form p report holds is) e = stopped names form Memory tt e
+memory_instead files words stop o bad (answered names form p report holds is) e = stopped (check names) form Memory tt e
+memory_instead files words stop o bad (listed rules form bs quiet are is) e = stopped (types rules) form Memory tt e
 
 pub becomes_allowed : (files : Files) (words : List (List ℕ)) (stop : Stop) (o : Outcome) → Allowed files words (stop_outcome stop) → Becomes stop o → Allowed files words o
 becomes_allowed files words BadWords o a e = let P : Outcome → Type 0 = λ o. Allowed files words o in subst P (sym e) a

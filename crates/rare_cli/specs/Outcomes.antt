@@ -6,6 +6,12 @@ use Rattle.rare_base.specs.declared.answers.Status.TheVariants as status
 use Rattle.rare_base.specs.Answers.{Refusal}
 use Rattle.rare_base.specs.Answers as base
 use Rattle.rare_base.specs.Reads.{most_file_bytes}
+use Rattle.rare_book.specs.RuleFile.{rules_of}
+use Rattle.rare_linear.specs.declared.constraint.Constraint.{Constraint}
+use Rattle.rare_rule.specs.Books.{BookRule}
+use Rattle.rare_rule.specs.TypedRule.{TypedRule}
+use Rattle.rare_rule.specs.declared.param.Param.{Param}
+use Rattle.rare_rule_printing.specs.ConstraintPrinting.{constraint_text}
 use Rattle.rare_sexpr.specs.Written.{written_symbol}
 use Rattle.rare_check.specs.declared.report.Report.{Report}
 use Rattle.rare_check.specs.declared.report.Report.TheVariants.{Checked, Invalid}
@@ -17,7 +23,7 @@ use Rattle.rare_text.specs.ProblemText.{problem_of}
 use Rattle.rare_text.specs.Problems.{StatedProblem}
 use Rattle.rare_check.specs.Verdicts.{checked}
 use Rattle.rare_cli.specs.declared.outcome.File.{File}
-use Rattle.rare_cli.specs.declared.outcome.File.TheVariants.{Problem, Proof}
+use Rattle.rare_cli.specs.declared.outcome.File.TheVariants.{Rules, Problem, Proof}
 use Rattle.rare_cli.specs.declared.outcome.Stop.{Stop}
 use Rattle.rare_cli.specs.declared.outcome.Stop.TheVariants.{BadWords, ReadFault, TooLong, Refused, Memory}
 
@@ -30,6 +36,7 @@ abbrev pub line : List ℕ → List ℕ
 line text = text ++ 10 ∷ []
 
 abbrev pub file_word : File → List ℕ
+file_word Rules = codes "rules"
 file_word Problem = codes "problem"
 file_word Proof = codes "proof"
 
@@ -92,7 +99,23 @@ report_status (Invalid name fault) = status.NotAll
 abbrev pub report_outcome : StatedProblem → Report → Outcome
 report_outcome p report = record { text = report_text p report; status = report_status report }
 
--- ---- the outcome of the texts of a problem and a proof: the first refusal, or else the report
+-- ---- rules with their constraints
+
+-- a constraint behind a blank
+abbrev pub spaced_constraint : List Param → Constraint → List ℕ
+spaced_constraint ps c = codes " " ++ constraint_text ps c
+
+-- the line of a rule: its name, then its constraints
+abbrev pub rule_line : TypedRule → List ℕ
+rule_line t = line (written_symbol t.rule.name ++ flat_map (spaced_constraint t.rule.params) t.constraints)
+
+abbrev pub types_text : List BookRule → List ℕ
+types_text bs = flat_map (λ b. rule_line b.typed) bs
+
+abbrev pub types_outcome : List BookRule → Outcome
+types_outcome bs = record { text = types_text bs; status = status.AllGood }
+
+-- ---- the outcome of the texts of files: the first refusal, or else the answer
 
 abbrev pub unless_long : File → List ℕ → Outcome → Outcome
 unless_long file text rest = if nat_lt most_file_bytes (length text) then stop_outcome (TooLong file) else rest
@@ -105,3 +128,6 @@ abbrev pub outcome_of : List ℕ → List ℕ → Outcome
 outcome_of problem proof =
     unless_long Problem problem (unless_file_refused Problem (problem_of problem) (λ p.
     unless_long Proof proof (unless_file_refused Proof (checked p proof) (report_outcome p))))
+
+abbrev pub outcome_of_rules : List ℕ → Outcome
+outcome_of_rules rules = unless_long Rules rules (unless_file_refused Rules (rules_of rules) types_outcome)

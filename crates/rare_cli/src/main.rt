@@ -8,6 +8,8 @@ mod outcome;
 mod run;
 #[cfg(test)]
 mod tests;
+mod text;
+mod types;
 mod words;
 
 use crate::run::exit_number;

@@ -2,9 +2,9 @@
 
 ghost use Rattle.std.specs.Prelude.{◌≡◌, [], ◌∷◌, ◌++◌, map, option_map, OnOk, IfOk};
 ghost use Rattle.std.specs.List.{flat_map, list_all, zip};
-ghost use Rattle.rare_cli.specs.WordForms.{form_of, is_file};
+ghost use Rattle.rare_cli.specs.WordForms.{form_of, is_file, rules_named};
 ghost use Rattle.rare_cli.specs.Outcomes.{file_word, stop_line, verdict_text, is_valid, rewrite_line, invalid_line, report_lines, report_status};
-ghost use Rattle.rare_cli.specs.inner.Prepared.{stop_of_read, stop_of_fault};
+ghost use Rattle.rare_cli.specs.inner.Prepared.{form_asked, name_held, stop_of_read, stop_of_fault};
 
 use rare_base::{Fault, Place, ReadError, Reason, Status, Text, Texts};
 use rare_check::{Report, Verdict};
@@ -16,6 +16,7 @@ use std::alloc::{AllocError, Global};
 /// A file of the words.
 #[derive(Clone, Copy, Debug, PartialEq, Eq)]
 pub enum File {
+    Rules,
     Problem,
     Proof,
 }
@@ -77,18 +78,27 @@ impl Stop {
     }
 }
 
-/// What is written of a proof that was read, and the status.
+/// What is written of files that were read, and the status.
 #[derive(Drop)]
 pub struct Answer {
     pub text: Text,
     pub status: Status,
 }
 
-/// The names of the files, where the words are a form.
+/// The names of the files of a check.
 #[derive(Clone, Copy)]
 pub struct FileNames<'a> {
     pub problem: &'a [u8],
     pub proof: &'a [u8],
+}
+
+/// What the words ask for.
+#[derive(Clone, Copy)]
+pub enum Form<'a> {
+    /// `check - PROBLEM PROOF`
+    Check(FileNames<'a>),
+    /// `types RULES`, where `-` is no file.
+    Types(Option<&'a [u8]>),
 }
 
 fn is_file_name(word: &[u8]) -> bool
@@ -97,26 +107,59 @@ fn is_file_name(word: &[u8]) -> bool
     !word.starts_with(b"--")
 }
 
-/// The names of the problem and the proof, where the words are `check - PROBLEM PROOF`.
-pub fn form(words: &[Text]) -> Option<FileNames<'_>>
-    ensures { form_of words.now
-        ≡ option_map (λ r. record { problem = r.problem.now; proof = r.proof.now }) result }
+// The file of rules that a word names.
+fn rules_of_word(word: &[u8]) -> Option<&[u8]>
+    ensures { name_held result ≡ rules_named word.now }
+{
+    if word == b"-".as_slice() {
+        None
+    } else {
+        Some(word)
+    }
+}
+
+// `types RULES`
+fn types_form<'a>(command: &'a Text, rules: &'a Text) -> Option<Form<'a>>
+    ensures { form_of (command.now ∷ rules.now ∷ []) ≡ option_map form_asked result }
+{
+    if command.bytes() == b"types".as_slice() && is_file_name(rules.bytes()) {
+        Some(Form::Types(rules_of_word(rules.bytes())))
+    } else {
+        None
+    }
+}
+
+// `check - PROBLEM PROOF`
+fn check_form<'a>(
+    command: &'a Text,
+    rules: &'a Text,
+    problem: &'a Text,
+    proof: &'a Text,
+) -> Option<Form<'a>>
+    ensures { form_of (command.now ∷ rules.now ∷ problem.now ∷ proof.now ∷ [])
+        ≡ option_map form_asked result }
+{
+    if command.bytes() == b"check".as_slice()
+        && rules.bytes() == b"-".as_slice()
+        && is_file_name(problem.bytes())
+        && is_file_name(proof.bytes())
+    {
+        Some(Form::Check(FileNames {
+            problem: problem.bytes(),
+            proof: proof.bytes(),
+        }))
+    } else {
+        None
+    }
+}
+
+/// What the words ask for, or none where they are no form.
+pub fn read_form(words: &[Text]) -> Option<Form<'_>>
+    ensures { form_of words.now ≡ option_map form_asked result }
 {
     match words {
-        [command, rules, problem, proof] => {
-            if command.bytes() == b"check".as_slice()
-                && rules.bytes() == b"-".as_slice()
-                && is_file_name(problem.bytes())
-                && is_file_name(proof.bytes())
-            {
-                Some(FileNames {
-                    problem: problem.bytes(),
-                    proof: proof.bytes(),
-                })
-            } else {
-                None
-            }
-        }
+        [command, rules] => types_form(command, rules),
+        [command, rules, problem, proof] => check_form(command, rules, problem, proof),
         _ => None,
     }
 }
@@ -133,6 +176,7 @@ pub fn read_fault(file: File) -> &'static [u8]
     ensures { result.now ≡ stop_line (Stop.ReadFault file) }
 {
     match file {
+        File::Rules => b"read fault rules\n",
         File::Problem => b"read fault problem\n",
         File::Proof => b"read fault proof\n",
     }
@@ -143,6 +187,7 @@ pub fn too_long(file: File) -> &'static [u8]
     ensures { result.now ≡ stop_line (Stop.TooLong file) }
 {
     match file {
+        File::Rules => b"too long rules\n",
         File::Problem => b"too long problem\n",
         File::Proof => b"too long proof\n",
     }
@@ -159,6 +204,7 @@ fn file_name(file: File) -> &'static str
     ensures { result.now ≡ file_word file }
 {
     match file {
+        File::Rules => "rules",
         File::Problem => "problem",
         File::Proof => "proof",
     }

@@ -16,33 +16,16 @@ ghost use Rattle.rare_cli.specs.Causes.{Allowed, Says, RefusesWords, AnswersText
 ghost use Rattle.rare_cli.specs.inner.Prepared.{Delivers, outcome_in, Becomes, IsTextOf, IsProblemOf, IsReportOn, IsAnswerOn, IsChecked};
 
 use crate::outcome::{
-    Answer, File, FileNames, Stop, answer_on, form, names_of, out_of_memory, read_fault, refused,
-    too_long, usage,
+    Answer, File, FileNames, Form, Stop, answer_on, names_of, out_of_memory, read_fault, read_form,
+    refused, too_long, usage,
 };
-use rare_base::{Fault, Library, Sink, Status, Text, Texts, put_whole, read_whole};
+use crate::text::read_text;
+use crate::types::list_types;
+use rare_base::{Fault, Library, Sink, Status, Texts, put_whole};
 use rare_check::{Checker, Report};
 use rare_term::{Plain, Terms};
 use rare_text::{Problem, read_problem};
 use std::alloc::Global;
-
-/// A file's text.
-fn read_text<L: Library>(
-    alloc: Global,
-    files: &mut L,
-    name: &[u8],
-    file: File,
-) -> Result<Text, Stop>
-    ensures text { IsTextOf (library L.text L.faults files.old files.new) name.now file result }
-    ensures texts { (w : List ℕ) → L.text files.new w ≡ L.text files.old w }
-    ensures later { (w : List ℕ) → L.faults files.old w ≤ L.faults files.new w }
-    ensures reads { ReadInTurn (L.reads files.old) (L.reads files.new) (name.now ∷ []) }
-    ensures end { OnOk result (ReadToEnd (L.reads files.old) (L.reads files.new) name.now) }
-{
-    match read_whole(alloc, files, name) {
-        Ok(text) => Ok(text),
-        Err(error) => Err(Stop::of_read(file, error)),
-    }
-}
 
 /// The problem that a file states, read into terms that have no declarations yet.
 fn read_problem_file<L: Library, T: Terms>(
@@ -139,8 +122,9 @@ fn prepare<L: Library>(alloc: Global, words: &Texts, files: &mut L) -> Result<An
     ensures later { (w : List ℕ) → L.faults files.old w ≤ L.faults files.new w }
     ensures reads { ReadInTurn (L.reads files.old) (L.reads files.new) (files_in words.now) }
 {
-    match form(words.items()) {
-        Some(names) => check(alloc, names, files),
+    match read_form(words.items()) {
+        Some(Form::Check(names)) => check(alloc, names, files),
+        Some(Form::Types(rules)) => list_types(alloc, rules, files),
         None => Err(Stop::BadWords),
     }
 }
@@ -192,9 +176,10 @@ fn run_all<L: Library, S: Sink>(alloc: Global, words: &Texts, files: &mut L, out
 
 /// Does what the words after the program's name say, and gives the status to end with.
 ///
-/// The words that are a form are `check - PROBLEM PROOF`, where neither name begins with `--`. The
-/// files are read whole, the problem first, and what is wrong with the problem comes before what is
-/// wrong with the proof. All of an answer stands before its first byte is written.
+/// The words that are a form are `check - PROBLEM PROOF` and `types RULES`, where no name begins with
+/// `--`, and `-` for the rules is no file. The files are read whole, the problem first, and what is
+/// wrong with the problem comes before what is wrong with the proof. All of an answer stands before
+/// its first byte is written.
 pub fn run<L: Library, S: Sink>(alloc: Global, words: &Texts, files: &mut L, out: &mut S) -> Status
     requires files { (w : List ℕ) → L.faults files.old w < most_faults }
     requires out { S.faults out.old < most_faults }

@@ -36,11 +36,12 @@ const PROVED: &str = "(step t1 (cl (= p p)) :rule refl)(conclude r1 t1)";
 const USAGE: &str =
     "usage: rare check RULES PROBLEM PROOF | prove [--depth=N] [--budget=N] RULES PROBLEM | rules | types RULES | gen N\n";
 
-// A run over memory: the words, the two texts, the numbers of the reads and of the puts that fail, and
+// A run over memory: the words, the three texts, the numbers of the reads and of the puts that fail, and
 // what must come of it.
 struct Case {
     name: &'static str,
     words: &'static [&'static str],
+    rules: &'static str,
     problem: &'static str,
     proof: &'static str,
     failed_reads: &'static [u64],
@@ -53,6 +54,7 @@ struct Case {
 const ROW: Case = Case {
     name: "a rewrite that is concluded",
     words: CHECK,
+    rules: "",
     problem: ONE,
     proof: PROVED,
     failed_reads: &[],
@@ -230,6 +232,97 @@ const THEORIES: &[Case] = &[
     },
 ];
 
+const TYPES: &[&str] = &["types", "rules"];
+
+// Runs that list the rules of a file.
+const RULES: &[Case] = &[
+    Case {
+        name: "an index below a width",
+        words: TYPES,
+        rules: "(define-rule ext ((n Width) (j Index) (x (BitVec n)))\
+            (extract j 0 x) (extract j 0 (bvnot (bvnot x))))",
+        written: "ext (>= (+ n (* (- 1) j) (- 1)) 0)\n",
+        ..ROW
+    },
+    Case {
+        name: "an index beyond a width",
+        words: TYPES,
+        rules: "(define-rule nv ((x (BitVec 4))) (bvnot (extract 4 0 x)) (bvnot (extract 4 0 x)))",
+        status: Status::BadText,
+        number: 3,
+        written: "refused rules 1:1 NeverHolds\n",
+        ..ROW
+    },
+    Case {
+        name: "an equation of two sorts",
+        words: TYPES,
+        rules: "(define-rule mix ((p Bool) (x Int)) (= p x) p)",
+        status: Status::BadText,
+        number: 3,
+        written: "refused rules 1:1 Clash\n",
+        ..ROW
+    },
+    Case {
+        name: "two rules of one name",
+        words: TYPES,
+        rules: "(define-rule two ((p Bool)) (not (not p)) p)\n\
+            (define-rule two ((p Bool)) (not (not p)) p)",
+        status: Status::BadText,
+        number: 3,
+        written: "refused rules 2:1 DuplicateName\n",
+        ..ROW
+    },
+    Case {
+        name: "two rules, a name between bars, and a width without a name",
+        words: TYPES,
+        rules: "(define-rule |not not| ((p Bool)) (not (not p)) p)\
+            (define-rule low ((x ?BitVec)) (extract 3 0 x) (extract 3 0 x))",
+        written: "|not not|\nlow (>= (+ (bvsize x) (- 4)) 0)\n",
+        ..ROW
+    },
+    Case {
+        name: "a parameter of three items",
+        words: TYPES,
+        rules: "(define-rule f ((true Foo :list)) true true)",
+        status: Status::BadText,
+        number: 3,
+        written: "refused rules 1:17 BadForm\n",
+        ..ROW
+    },
+    Case {
+        name: "a sort that clashes and an index beyond a width, at one root",
+        words: TYPES,
+        rules: "(define-rule f ((x (BitVec 4))) (bvnot x) (extract 5 0 x))",
+        status: Status::BadText,
+        number: 3,
+        written: "refused rules 1:1 Clash\n",
+        ..ROW
+    },
+    Case {
+        name: "no file of rules",
+        words: &["types", "-"],
+        written: "",
+        ..ROW
+    },
+    Case {
+        name: "rules in a word that begins with two dashes",
+        words: &["types", "--"],
+        status: Status::BadWords,
+        number: 2,
+        written: USAGE,
+        ..ROW
+    },
+    Case {
+        name: "the only read of the rules fails",
+        words: TYPES,
+        failed_reads: &[1],
+        status: Status::ReadFault,
+        number: 4,
+        written: "read fault rules\n",
+        ..ROW
+    },
+];
+
 fn named(alloc: Global, name: &str, bytes: &str) -> Result<NamedText, AllocError> {
     Ok(NamedText {
         name: Text::of(alloc, name.as_bytes())?,
@@ -241,6 +334,7 @@ fn library(alloc: Global, case: &Case) -> Result<MemoryLibrary, AllocError>
     ensures { IfOk result (λ files. faults_of files ≡ 0) }
 {
     let mut texts = NamedTexts::new(alloc);
+    texts.push(named(alloc, "rules", case.rules)?)?;
     texts.push(named(alloc, "problem", case.problem)?)?;
     texts.push(named(alloc, "proof", case.proof)?)?;
     let fail = Vec::from_slice(alloc, case.failed_reads)?;
@@ -279,6 +373,12 @@ fn a_run_writes_what_the_words_ask_for(rt: HostRuntime) -> Result<(), Fail> {
 #[test]
 fn a_run_reads_the_four_theories(rt: HostRuntime) -> Result<(), Fail> {
     assert_eq!(rt; first_wrong(rt.alloc(), THEORIES)?, None);
+    Ok(())
+}
+
+#[test]
+fn a_run_lists_the_rules_of_a_file(rt: HostRuntime) -> Result<(), Fail> {
+    assert_eq!(rt; first_wrong(rt.alloc(), RULES)?, None);
     Ok(())
 }
 

@@ -1,5 +1,6 @@
 -- What the parts of a run give to the next.
-use Rattle.std.specs.Prelude.{◌≡◌, ℕ, ◌≤◌, ◌⊎◌, List, length, Result, Ok, Err}
+use Rattle.std.specs.Prelude.{◌≡◌, ℕ, ◌≤◌, ◌⊎◌, List, length, Option, Some, None, Result, Ok, Err}
+use Rattle.std.specs.Borrow.{Bor}
 use Rattle.rare_base.specs.declared.outside.ReadError.{ReadError}
 use Rattle.rare_base.specs.declared.outside.ReadError.TheVariants as read
 use Rattle.rare_base.specs.declared.answers.Fault.{Fault}
@@ -11,20 +12,24 @@ use Rattle.rare_base.specs.Reads.{most_file_bytes}
 use Rattle.rare_check.specs.declared.report.Report.{Report}
 use Rattle.rare_term.specs.State.{State}
 use Rattle.rare_text.specs.declared.problem.Problem.{Problem}
+use Rattle.rare_book.specs.RuleFile.{rules_of}
+use Rattle.rare_rule.specs.Books.{BookRule}
 use Rattle.rare_text.specs.ProblemText.{problem_of}
 use Rattle.rare_text.specs.Problems.{StatedProblem}
 use Rattle.rare_text.specs.Samples.{AreSamples}
 use Rattle.rare_text.specs.Stated.{stated_problem}
 use Rattle.rare_check.specs.Verdicts.{checked, ValidAreTrue}
-use Rattle.rare_cli.specs.WordForms.{Names}
-use Rattle.rare_cli.specs.Outcomes.{Outcome, stop_outcome, report_outcome}
+use Rattle.rare_cli.specs.WordForms.{Names, Form, check, types}
+use Rattle.rare_cli.specs.Outcomes.{Outcome, stop_outcome, report_outcome, types_outcome}
 use Rattle.rare_cli.specs.Calls.{Files, IsQuiet, Tells, Written, Takes, Cuts}
-use Rattle.rare_cli.specs.Causes.{IsLong, ReadsAs, HasStopCause, IsReport}
+use Rattle.rare_cli.specs.Causes.{IsLong, ReadsAs, HasStopCause, IsReport, AreRules}
 use Rattle.rare_cli.specs.declared.outcome.File.{File}
 use Rattle.rare_cli.specs.declared.outcome.File.TheVariants as file
 use Rattle.rare_cli.specs.declared.outcome.Stop.{Stop}
 use Rattle.rare_cli.specs.declared.outcome.Stop.TheVariants.{BadWords, ReadFault, TooLong, Refused, Memory}
 use Rattle.rare_cli.specs.declared.outcome.Answer.{Answer}
+use Rattle.rare_cli.specs.declared.outcome.Form.{Form as AskedForm}
+use Rattle.rare_cli.specs.declared.outcome.Form.TheVariants as asked
 
 abbrev pub stop_of_read : File → ReadError → Stop
 stop_of_read file read.Failed = ReadFault file
@@ -34,6 +39,16 @@ stop_of_read file read.Memory = Memory
 abbrev pub stop_of_fault : File → Fault → Stop
 stop_of_fault file (fault.Refused place reason) = Refused file place reason
 stop_of_fault file fault.Memory = Memory
+
+-- the name of a file of rules, as the code holds it
+abbrev pub name_held : Option (Bor (List ℕ)) → Option (List ℕ)
+name_held None = None
+name_held (Some name) = Some name.now
+
+-- what the words ask for, as the code holds it
+abbrev pub form_asked : AskedForm → Form
+form_asked (asked.Check names) = check (record { problem = names.problem.now; proof = names.proof.now })
+form_asked (asked.Types rules) = types (name_held rules)
 
 abbrev pub answer_outcome : Answer → Outcome
 answer_outcome a = record { text = a.text; status = a.status }
@@ -88,7 +103,26 @@ IsAnswerOn p proof (Err stop) = IsReportOn p proof (Err stop)
 -- the answer over these files, or why there is none
 abbrev pub IsChecked : Files → Names → Result Answer Stop → Type 0
 IsChecked files names (Ok a) = (p : StatedProblem) × (report : Report) × IsReport files names p report × (answer_outcome a ≡ report_outcome p report)
-IsChecked files names (Err stop) = HasStopCause files names stop
+IsChecked files names (Err stop) = HasStopCause files (check names) stop
+
+-- the rules of a text, or why there are none
+abbrev pub AreRulesOf : List ℕ → Result (List BookRule) Stop → Type 0
+AreRulesOf text (Ok bs) = rules_of text ≡ Ok bs
+AreRulesOf text (Err BadWords) = ⊥
+AreRulesOf text (Err (ReadFault other)) = ⊥
+AreRulesOf text (Err (TooLong other)) = ⊥
+AreRulesOf text (Err (Refused other place reason)) = (other ≡ file.Rules) × (rules_of text ≡ Err (record { place = place; reason = reason }))
+AreRulesOf text (Err Memory) = Unit {0}
+
+-- the list of the rules of a text, or why there is none
+abbrev pub IsTextListed : List ℕ → Result Answer Stop → Type 0
+IsTextListed text (Ok a) = (bs : List BookRule) × (rules_of text ≡ Ok bs) × (answer_outcome a ≡ types_outcome bs)
+IsTextListed text (Err stop) = AreRulesOf text (Err stop)
+
+-- the list of the rules of a file, or why there is none
+abbrev pub IsListed : Files → Option (List ℕ) → Result Answer Stop → Type 0
+IsListed files rules (Ok a) = (bs : List BookRule) × IsQuiet files × AreRules files rules bs × (answer_outcome a ≡ types_outcome bs)
+IsListed files rules (Err stop) = HasStopCause files (types rules) stop
 
 -- the sink took the whole outcome, or a put failed
 pub data Delivers (o : Outcome) (result : Status) (out : Written) : Type 0 where

@@ -1,6 +1,6 @@
 use Rattle.rare_cli.specs.Calls.{library}
 use Rattle.rare_cli.proofs.Runs.{unread}
-use Rattle.rare_cli.proofs.run.read_text.Goals as goal
+use Rattle.rare_cli.proofs.text.read_text.Goals as goal
 
 pub returns-in-Err-clause-text : goal.returns-in-Err-clause-text
 returns-in-Err-clause-text g c =
