@@ -1,16 +1,13 @@
 -- The arguments that may be handed in, as trees.
-use Rattle.std.proofs.Common.{◌≡◌, ℕ, suc, ◌+◌, ◌<◌, List, [], ◌∷◌, ◌++◌, length, map, All, get_or, refl, sym, ap, ◌∙◌, subst, arith, OnOk, Result, Ok, Err}
-use Rattle.std.specs.Prelude.{IsTrue}
+use Rattle.std.proofs.Common.{◌≡◌, ℕ, suc, ◌<◌, List, [], ◌∷◌, length, All, sym, subst, arith, OnOk, Result, Ok, Err}
 use Rattle.rare_sort.specs.Each.{Each}
 use Rattle.rare_sort.specs.Ids.{AreIds, tree_at, trees_at}
 use Rattle.rare_sort.specs.SortOf.{sort_of}
-use Rattle.rare_sort.specs.declared.declarations.Declarations.{Declarations}
 use Rattle.rare_sort.specs.declared.tree.TermId.{TermId}
-use Rattle.rare_sort.specs.declared.tree.Tree.{Tree}
 use Rattle.rare_term.specs.Lawful.{IsLawful}
 use Rattle.rare_term.specs.State.{State}
-use Rattle.rare_inst.specs.Answers.{IsGiven, AreGiven}
-use Rattle.rare_inst.specs.Arguments.{Argument, argument_of, arguments_of}
+use Rattle.rare_inst.specs.Answers.{IsGiven}
+use Rattle.rare_inst.specs.Arguments.{argument_of}
 use Rattle.rare_inst.specs.InstanceLaws.{HasNormalWidth, IsArgument, IsProblemTerm}
 use Rattle.rare_inst.specs.declared.arg.Arg.{Arg}
 use Rattle.rare_inst.specs.declared.arg.Arg.TheVariants as given

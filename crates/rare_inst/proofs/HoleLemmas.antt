@@ -1,5 +1,5 @@
 -- What doesn't depend on what stands in the hole.
-use Rattle.std.proofs.Common.{◌≡◌, ℕ, ◌+◌, Bool as Test, true, false, ◌&&◌, ◌||◌, not, List, [], ◌∷◌, map, Option, Some, None, refl, sym, ap, ◌∙◌, subst, if◌then◌else◌}
+use Rattle.std.proofs.Common.{◌≡◌, Bool as Test, true, false, ◌&&◌, ◌||◌, not, List, [], ◌∷◌, map, Option, Some, None, refl, sym, ap, ◌∙◌, subst, if◌then◌else◌}
 use Rattle.std.proofs.lemmas.Option.{none-some}
 use Rattle.std.specs.List.{list_all}
 use Rattle.rare_linear.specs.Linears.{Part, LinearExpression, add, scale, number, substitute}
@@ -10,7 +10,7 @@ use Rattle.rare_sort.specs.declared.declarations.Declarations.{Declarations}
 use Rattle.rare_sort.specs.declared.head.Head.{Head}
 use Rattle.rare_sort.specs.declared.head.Head.TheVariants as head
 use Rattle.rare_sort.specs.declared.sort.Sort.{Sort, Bool, Int, BitVec, Array', Named, Row_of-Sort, end_of-Sort, more_of-Sort}
-use Rattle.rare_sort.specs.declared.tree.Tree.{Tree, Tree-F, roll-Tree, ind-Tree}
+use Rattle.rare_sort.specs.declared.tree.Tree.{Tree, ind-Tree}
 use Rattle.rare_rule.specs.Holds.{has_list}
 use Rattle.rare_rule.specs.declared.param.Param.{Param}
 use Rattle.rare_inst.specs.Collapse.{spliced, reduct}

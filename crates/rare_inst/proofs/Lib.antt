@@ -30,3 +30,5 @@ mod Suiting
 mod Applying
 mod InstanceNodes
 mod InstanceRowLemmas
+mod Contexts
+mod TestForms

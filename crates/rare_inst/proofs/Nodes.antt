@@ -1,12 +1,12 @@
 -- What a node of a rule's tree becomes, step by step.
-use Rattle.std.proofs.Common.{◌≡◌, ℕ, zero, suc, ◌+◌, ◌<◌, Bool as Test, true, false, ◌&&◌, ◌||◌, not, List, [], ◌∷◌, length, map, get_or, slice_get, All, Option, Some, None, Result, Ok, Err, refl, sym, ap, ◌∙◌, subst, arith, if◌then◌else◌}
+use Rattle.std.proofs.Common.{◌≡◌, ℕ, suc, ◌<◌, Bool as Test, true, false, ◌||◌, not, List, [], ◌∷◌, length, map, slice_get, All, Option, Some, None, Result, refl, sym, ap, ◌∙◌, subst, arith, if◌then◌else◌}
 use Rattle.std.proofs.lemmas.List.Elements.{All-nil, All-cons}
 use Rattle.std.proofs.lemmas.Option.{same_Some, slice_get-map, slice_get_within, get_or_from_slice_get}
 use Rattle.std.specs.Option.{option_map}
 use Rattle.std.specs.List.{list_all}
 use Rattle.rare_linear.specs.Linears.{LinearExpression, number, substitute, substitute_from}
 use Rattle.rare_sort.specs.Ids.{AreIds, trees_at}
-use Rattle.rare_sort.specs.Trees.{head_of, indices_of, args_of}
+use Rattle.rare_sort.specs.Trees.{head_of, indices_of}
 use Rattle.rare_sort.specs.declared.head.Head.{Head}
 use Rattle.rare_sort.specs.declared.head.Head.TheVariants as head
 use Rattle.rare_sort.specs.declared.sort.Sort.{Sort}
@@ -17,7 +17,7 @@ use Rattle.rare_term.specs.State.{State}
 use Rattle.rare_inst.specs.Collapse.{reduct_tree}
 use Rattle.rare_rule.specs.Params.{kind_at}
 use Rattle.rare_inst.specs.Answers.{AreGiven, IsGiven as IsGivenArg}
-use Rattle.rare_inst.specs.Arguments.{argument_of, arguments_of}
+use Rattle.rare_inst.specs.Arguments.{argument_of}
 use Rattle.rare_inst.specs.Instance.{is_refused, own_fault, put_node}
 use Rattle.rare_inst.specs.Substituting.{Substitution, group_given, is_put_within}
 use Rattle.rare_inst.specs.declared.arg.Arg.{Arg}

@@ -1,21 +1,19 @@
 -- Parts of a rule as terms grow, and their trees node by node.
-use Rattle.std.proofs.Common.{◌≡◌, IsTrue, ℕ, zero, suc, ◌+◌, ◌<◌, ◌≤◌, Bool as Test, true, false, List, [], ◌∷◌, ◌++◌, length, map, flat_map, drop, get_or, All, Option, Some, None, Result, Ok, Err, refl, sym, ap, ◌∙◌, subst, arith, append_assoc}
+use Rattle.std.proofs.Common.{◌≡◌, IsTrue, ℕ, suc, ◌+◌, ◌<◌, ◌≤◌, List, [], ◌∷◌, ◌++◌, length, map, drop, get_or, Option, Some, None, Result, refl, sym, ap, ◌∙◌, subst, arith, append_assoc}
 use Rattle.std.proofs.lemmas.List.{drop_more, drop_all, append-nil}
 use Rattle.std.proofs.lemmas.List.Elements.{All-append}
-use Rattle.rare_linear.specs.Linears.{LinearExpression, NamesBelow, substitute}
+use Rattle.rare_linear.specs.Linears.{NamesBelow, substitute}
 use Rattle.rare_sort.specs.DeclaredSorts.{AreNamed, widths}
 use Rattle.rare_sort.specs.Ids.{AreIds, Extends, tree_at, trees_at}
-use Rattle.rare_sort.specs.Trees.{node, head_of, indices_of, args_of}
+use Rattle.rare_sort.specs.Trees.{head_of, indices_of, args_of}
 use Rattle.rare_sort.specs.declared.declarations.Declarations.{Declarations}
 use Rattle.rare_sort.specs.declared.tree.TermId.{TermId}
 use Rattle.rare_sort.specs.declared.tree.Tree.{Tree}
 use Rattle.rare_term.specs.State.{State, Grows}
 use Rattle.rare_term.specs.inner.TreeLaws.{node_of}
 use Rattle.rare_rule.specs.Holds.{has_list}
-use Rattle.rare_rule.specs.Params.{kind_at}
-use Rattle.rare_rule.specs.declared.param.ParamKind.{ParamKind}
 use Rattle.rare_inst.specs.Answers.{AreGiven, IsFault, is_named_sort, IsGiven as IsGivenArg}
-use Rattle.rare_inst.specs.Arguments.{Argument, OfTerm, OfList, argument_of, arguments_of}
+use Rattle.rare_inst.specs.Arguments.{OfTerm, OfList, argument_of, arguments_of}
 use Rattle.rare_inst.specs.Collapse.{first_sort, spliced}
 use Rattle.rare_inst.specs.Instance.{fault_with, instance, instance_fault, node_fault, put_node}
 use Rattle.rare_inst.specs.Substituting.{Substitution, TreeGroup, one_tree, substitution}
@@ -26,7 +24,7 @@ use Rattle.rare_inst.specs.declared.fault.InstFault.TheVariants as fault
 use Rattle.rare_inst.specs.declared.part.Hole.{Hole}
 use Rattle.rare_inst.specs.declared.part.Hole.TheVariants as hole
 use Rattle.rare_inst.specs.declared.part.Part.{Part}
-use Rattle.rare_inst.specs.inner.Making.{AnswersGroup, HasSortWithin, IsGroup, IsHoleOf, IsPartOf, all_trees, fault_at, first_fault, group_at, hole_fault, hole_group, node_group, part_fault, part_group, putting, side_of}
+use Rattle.rare_inst.specs.inner.Making.{AnswersGroup, HasSortWithin, IsHoleOf, IsPartOf, all_trees, fault_at, first_fault, group_at, hole_fault, hole_group, node_group, part_fault, part_group, putting, side_of}
 use Rattle.rare_inst.specs.inner.Standing.{StandsFor}
 use Rattle.rare_inst.proofs.InstanceNodes.{instance-node, instance_fault-node}
 use Rattle.rare_inst.proofs.Made.{tree_kept, trees_kept, longer}

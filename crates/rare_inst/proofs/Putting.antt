@@ -1,5 +1,5 @@
 -- Expressions with what stands for their names, as the code forms them.
-use Rattle.std.proofs.Common.{◌≡◌, ℕ, ◌+◌, ◌<◌, Bool, true, false, ◌&&◌, List, [], ◌∷◌, ◌++◌, length, map, drop, append_assoc, get_or, slice_get, Option, Some, None, refl, sym, ap, ◌∙◌, subst, All, if◌then◌else◌}
+use Rattle.std.proofs.Common.{◌≡◌, ℕ, ◌+◌, ◌<◌, Bool, true, false, ◌&&◌, List, [], ◌∷◌, ◌++◌, length, map, drop, append_assoc, get_or, slice_get, Option, Some, None, refl, sym, ap, ◌∙◌, subst, if◌then◌else◌}
 use Rattle.std.proofs.lemmas.List.{drop_more, get_or_default}
 use Rattle.std.proofs.lemmas.List.Elements.{All-push}
 use Rattle.std.proofs.lemmas.Option.{get_or_from_slice_get, same_Some}
@@ -8,7 +8,7 @@ use Rattle.std.specs.Option.{option_map}
 use Rattle.std.specs.Prelude.{pos}
 use Rattle.rare_linear.specs.Linears.{Part, LinearExpression, NamesBelow, number, add, scale, substitute, substitute_from, value_at}
 use Rattle.rare_linear.specs.EntailmentTest.{is_within}
-use Rattle.rare_linear.specs.PartialSums.{IsWithin, SumsFit, PartialSumsFit}
+use Rattle.rare_linear.specs.PartialSums.{SumsFit, PartialSumsFit}
 use Rattle.rare_linear.proofs.EntailmentTestLemmas.{is_within-Decides}
 use Rattle.rare_sort.specs.DeclaredSorts.{AreNamed}
 use Rattle.rare_inst.specs.Substituting.{Substitution, sums_within, is_put_within}

@@ -1,8 +1,8 @@
 -- Sorts with what stands for their names, as the code forms them.
-use Rattle.std.proofs.Common.{◌≡◌, ℕ, Bool as Test, true, false, ◌&&◌, List, [], ◌∷◌, length, Option, Some, None, refl, sym, ap, ◌∙◌, subst, if◌then◌else◌, IsTrue, IfOk}
+use Rattle.std.proofs.Common.{◌≡◌, ℕ, Bool as Test, true, false, ◌&&◌, List, [], ◌∷◌, Some, None, refl, sym, ap, ◌∙◌, if◌then◌else◌, IsTrue}
 use Rattle.std.proofs.lemmas.Bool.{ltb-true}
 use Rattle.std.specs.Prelude.{nat_lt}
-use Rattle.rare_linear.specs.Linears.{Part, LinearExpression, NamesBelow, substitute}
+use Rattle.rare_linear.specs.Linears.{Part, LinearExpression, NamesBelow}
 use Rattle.rare_sort.specs.DeclaredSorts.{names_below}
 use Rattle.rare_sort.specs.declared.sort.Sort.{Sort, BitVec}
 use Rattle.rare_sort.specs.declared.sort.Sort as sort

@@ -1,21 +1,21 @@
 -- The trees of a rule in form, node by node.
-use Rattle.std.proofs.Common.{◌≡◌, ℕ, zero, suc, ◌+◌, ◌<◌, Bool, true, false, ◌&&◌, List, [], ◌∷◌, ◌++◌, length, map, flat_map, get_or, All, Option, Some, None, refl, sym, ap, ◌∙◌, subst, arith, IsTrue, if◌then◌else◌}
+use Rattle.std.proofs.Common.{◌≡◌, ℕ, zero, suc, ◌<◌, Bool, true, false, ◌&&◌, List, [], ◌∷◌, ◌++◌, length, map, flat_map, get_or, Option, Some, None, refl, sym, ap, ◌∙◌, subst, arith, if◌then◌else◌}
 use Rattle.std.proofs.lemmas.Bool.{eqb-true}
 use Rattle.std.proofs.lemmas.List.Elements.{All-nil, All-cons}
 use Rattle.std.proofs.lemmas.List.{get_or_default}
 use Rattle.std.proofs.lemmas.Option.{slice_get_within}
 use Rattle.std.specs.Option.{option_map}
-use Rattle.std.specs.Prelude.{ℤ, pos, nat_eq, slice_get}
+use Rattle.std.specs.Prelude.{ℤ, nat_eq, slice_get}
 use Rattle.rare_linear.specs.Linears.{Part, LinearExpression, NamesBelow}
 use Rattle.rare_sort.specs.DeclaredSorts.{AreNamed, IsSymbol}
 use Rattle.rare_sort.specs.Each.{Each}
 use Rattle.rare_sort.specs.Families.{family}
 use Rattle.rare_sort.specs.Ids.{tree_at}
 use Rattle.rare_sort.specs.SortRules.{number_in, no_names}
-use Rattle.rare_sort.specs.Trees.{node, head_of, indices_of, args_of, nesting}
+use Rattle.rare_sort.specs.Trees.{node, args_of, nesting}
 use Rattle.rare_sort.specs.declared.head.Head.{Head}
 use Rattle.rare_sort.specs.declared.head.Head.TheVariants as head
-use Rattle.rare_sort.specs.declared.tree.Tree.{Tree, Tree-F, out-Tree, roll-Tree, out-roll-Tree, roll-out-Tree, ind-Tree, every-Tree, every_here-Tree, every_made-Tree}
+use Rattle.rare_sort.specs.declared.tree.Tree.{Tree, Tree-F, out-Tree, roll-out-Tree, ind-Tree, every-Tree, every_here-Tree, every_made-Tree}
 use Rattle.rare_term.specs.Literals.{IsGiven}
 use Rattle.rare_term.specs.inner.TreeLaws.{nesting_falls}
 use Rattle.rare_rule.specs.NodeForms.{all_nodes, index_count, has_its_arguments, has_indices, is_node_form, is_literal_within, is_operator_of_rules, is_value_of_width}
@@ -27,7 +27,7 @@ use Rattle.rare_rule.specs.declared.param.Param.{Param}
 use Rattle.rare_rule.specs.declared.param.ParamKind.{ParamKind}
 use Rattle.rare_rule.specs.declared.rule.Rule.{Rule}
 use Rattle.rare_rule.proofs.Walks.{walk-node}
-use Rattle.rare_inst.proofs.Growing.{held_args, held_each}
+use Rattle.rare_inst.proofs.Growing.{held_args}
 use Rattle.rare_inst.specs.inner.RuleTrees.{IsOfRules, IsRuleNode, IsRuleTree}
 
 pub both : (b c : Bool) → (b && c) ≡ true → (b ≡ true) × (c ≡ true)

@@ -1,16 +1,14 @@
 -- What the numbers of arguments stand for, and what a rule in form says of their number.
-use Rattle.std.proofs.Common.{◌≡◌, ℕ, zero, suc, ◌+◌, ◌<◌, Bool as Test, true, false, ◌&&◌, List, [], ◌∷◌, length, map, get_or, slice_get, All, Option, Some, None, refl, sym, ap, ◌∙◌, subst, arith, IsTrue, if◌then◌else◌}
+use Rattle.std.proofs.Common.{◌≡◌, ℕ, zero, suc, ◌<◌, Bool as Test, true, false, ◌&&◌, List, [], ◌∷◌, length, map, get_or, slice_get, All, Some, None, refl, sym, ap, ◌∙◌, subst, arith, if◌then◌else◌}
 use Rattle.std.proofs.lemmas.Bool.{lt-ltb}
 use Rattle.std.proofs.lemmas.List.Elements.{All-nil, All-cons}
-use Rattle.std.proofs.lemmas.Option.{slice_get-get_or, none-some}
-use Rattle.std.specs.Prelude.{pos, is_some, nat_lt, unwrap_or, Result, Ok, Err}
-use Rattle.rare_linear.specs.Linears.{LinearExpression, Part, NamesBelow, number, value_at}
+use Rattle.std.proofs.lemmas.Option.{none-some}
+use Rattle.std.specs.Prelude.{pos, is_some, unwrap_or}
+use Rattle.rare_linear.specs.Linears.{Part, NamesBelow, number, value_at}
 use Rattle.rare_linear.specs.declared.constraint.Constraint.{Constraint}
 use Rattle.rare_sort.specs.DeclaredSorts.{names_below}
-use Rattle.rare_sort.specs.declared.declarations.Declarations.{Declarations}
 use Rattle.rare_sort.specs.declared.sort.Signature.{Signature}
-use Rattle.rare_sort.specs.declared.sort.Sort.{Sort, Bool, Int, BitVec, Named}
-use Rattle.rare_sort.specs.declared.sort.Sort as sort
+use Rattle.rare_sort.specs.declared.sort.Sort.{Sort}
 use Rattle.rare_sort.specs.declared.sort.Sort.TheOpen as shape
 use Rattle.rare_sort.specs.declared.sort.Sort.TheOpen.{Sort-F}
 use Rattle.rare_sort.specs.declared.sort.Sort.TheFolds.{fold-roll-Sort}

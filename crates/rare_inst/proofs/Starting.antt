@@ -1,15 +1,12 @@
 -- Parts of a rule at arguments that it admits.
-use Rattle.std.proofs.Common.{◌≡◌, ℕ, List, [], ◌∷◌, length, map, slice_get, All, Option, Some, None, Result, Ok, Err, refl, sym, ap, ◌∙◌, subst, IsTrue}
+use Rattle.std.proofs.Common.{◌≡◌, ℕ, List, [], length, slice_get, All, Some, None, refl, sym, ap, ◌∙◌, subst}
 use Rattle.std.proofs.lemmas.Option.{get_or_from_slice_get, slice_get_within}
-use Rattle.std.specs.Prelude.{true}
-use Rattle.rare_linear.specs.Linears.{LinearExpression}
 use Rattle.rare_linear.specs.declared.constraint.Constraint.{Constraint}
 use Rattle.rare_sort.specs.DeclaredSorts.{AreNamed, widths}
 use Rattle.rare_sort.specs.Each.{Each}
 use Rattle.rare_sort.specs.Ids.{tree_at}
 use Rattle.rare_sort.specs.Trees.{node}
 use Rattle.rare_sort.specs.declared.head.Head.TheVariants.{True}
-use Rattle.rare_sort.specs.declared.declarations.Declarations.{Declarations}
 use Rattle.rare_sort.specs.declared.sort.Sort.{Sort, Bool}
 use Rattle.rare_sort.specs.declared.tree.Tree.{Tree}
 use Rattle.rare_term.specs.State.{State}
@@ -24,18 +21,17 @@ use Rattle.rare_rule.specs.declared.rule.Rule.{Rule}
 use Rattle.rare_inst.specs.Admission.{IsAdmitted}
 use Rattle.rare_inst.specs.Answers.{AreGiven}
 use Rattle.rare_inst.specs.Arguments.{Argument, argument_of, arguments_of}
-use Rattle.rare_inst.specs.Instance.{Side, instance, instance_fault}
+use Rattle.rare_inst.specs.Instance.{instance, instance_fault}
 use Rattle.rare_inst.specs.InstanceLaws.{IsArgument, IsInstance}
-use Rattle.rare_inst.specs.Substituting.{Substitution, TreeGroup, substitution, is_sort_within}
+use Rattle.rare_inst.specs.Substituting.{Substitution, substitution}
 use Rattle.rare_inst.specs.declared.arg.Arg.{Arg}
-use Rattle.rare_inst.specs.declared.fault.InstFault.{InstFault}
 use Rattle.rare_inst.specs.declared.part.Hole.TheVariants as hole
 use Rattle.rare_inst.specs.declared.part.Part.{Part}
 use Rattle.rare_inst.specs.declared.substitution.Numbers.{Numbers}
 use Rattle.rare_inst.specs.inner.Making.{HasSortWithin, IsAlone, IsHoleOf, IsPartOf, hole_fault, hole_group, part_fault, part_group, putting, side_of}
 use Rattle.rare_inst.specs.inner.Sites.{HasNamedSort}
 use Rattle.rare_inst.specs.inner.Standing.{AreNumbersOf, StandsFor}
-use Rattle.rare_inst.proofs.Admitted.{put_for, lists_within}
+use Rattle.rare_inst.proofs.Admitted.{lists_within}
 use Rattle.rare_inst.proofs.HoleLemmas.{other, sort_alike}
 use Rattle.rare_inst.proofs.Siting.{length_map, count_is, stands, sorts_named}
 use Rattle.rare_inst.proofs.RuleTreeLemmas.{left_tree, right_tree, premise_tree}

@@ -32,11 +32,13 @@ fn first_missorted<T: Terms>(
 ) -> Result<Option<usize>, AllocError>
     requires count { length site.now.args.now ≡ length params.now }
     requires args { AreGiven (T.state terms.now) site.now.args.now }
-    requires sorts { All (λ p. HasNamedSort (length site.now.numbers.now.values) p.kind) params.now }
+    requires sorts { All (λ p. HasNamedSort (length site.now.numbers.now.values) p.kind)
+        params.now }
     requires left { IsRuleTree (length site.now.numbers.now.values) site.now.left.now }
     ensures first { (a : Substitution) → IsPutAt a site.now →
         let xs = arguments_of (T.state terms.now).trees site.now.args.now in
-        ((k : ℕ) → a.number k ≡ number_given (T.state terms.now).declared.symbols (slice_get xs k)) →
+        ((k : ℕ) → a.number k ≡ number_given (T.state terms.now).declared.symbols
+        (slice_get xs k)) →
         IfOk result (λ o. o ≡ spec.first_that_fails (λ k p. spec.obeys (T.state terms.now).declared
         (nodes_of site.now.left.now) a k p (slice_get xs k)) 0 params.now) }
     ensures below { IfOk result (λ o. IfSome o (λ k. k < length params.now)) }
@@ -54,7 +56,8 @@ fn is_met<T: Terms>(terms: &T, numbers: &Numbers, floor: &Linear) -> Result<bool
     requires floor { NamesBelow (length numbers.now.values) floor.now.parts }
     requires named { AreNamed (widths (T.state terms.now).declared) numbers.now.values }
     ensures { (a : Substitution) → StandsFor a numbers.now → (left : List Node) →
-        IfOk result (λ b. b ≡ spec.is_met (T.state terms.now).declared left a (record { floor = floor.now })) }
+        IfOk result (λ b. b ≡ spec.is_met (T.state terms.now).declared left a
+        (record { floor = floor.now })) }
 {
     match numbers.put(floor)? {
         Some(e) => Ok(terms.entailed(&e)),
@@ -68,10 +71,12 @@ fn first_unentailed<T: Terms>(
     numbers: &Numbers,
     constraints: &[Constraint],
 ) -> Result<Option<usize>, AllocError>
-    requires floors { All (λ c. NamesBelow (length numbers.now.values) c.floor.parts) constraints.now }
+    requires floors { All (λ c. NamesBelow (length numbers.now.values) c.floor.parts)
+        constraints.now }
     requires named { AreNamed (widths (T.state terms.now).declared) numbers.now.values }
     ensures first { (a : Substitution) → StandsFor a numbers.now → (left : List Node) →
-        IfOk result (λ o. o ≡ spec.first_that_fails (λ k c. spec.is_met (T.state terms.now).declared left a c)
+        IfOk result (λ o. o ≡ spec.first_that_fails
+        (λ k c. spec.is_met (T.state terms.now).declared left a c)
         0 constraints.now) }
     ensures below { IfOk result (λ o. IfSome o (λ k. k < length constraints.now)) }
 {

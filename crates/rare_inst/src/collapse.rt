@@ -117,11 +117,14 @@ fn emptied<T: Terms>(
     tree: &Tree,
 ) -> Result<TermId, InstFault>
     requires part { IsPartOf (T.state terms.old) part.now }
-    requires sorts { All (λ p. HasNamedSort (length part.now.numbers.now.values) p.kind) part.now.params.now }
-    requires symbol { IsSymbol (length (T.state terms.old).declared.symbols) (family (head_of tree.now)) }
+    requires sorts { All (λ p. HasNamedSort (length part.now.numbers.now.values) p.kind)
+        part.now.params.now }
+    requires symbol { IsSymbol (length (T.state terms.old).declared.symbols)
+        (family (head_of tree.now)) }
     ensures made { AnswersReduct (T.state terms.old).declared (T.state terms.new).trees
         (spec.neutral (head_of tree.now)
-        (first_sort (map (instance (putting (T.state terms.old) part.now)) (args_of tree.now)))) result }
+        (first_sort (map (instance (putting (T.state terms.old) part.now)) (args_of tree.now))))
+        result }
     ensures grows { Grows (T.state terms.old) (T.state terms.new) }
 {
     let width = width_of_first(alloc, part, tree.args.items())?;
@@ -138,9 +141,11 @@ fn collapsed<T: Terms>(
     ids: &[TermId],
 ) -> Result<TermId, InstFault>
     requires part { IsPartOf (T.state terms.old) part.now }
-    requires sorts { All (λ p. HasNamedSort (length part.now.numbers.now.values) p.kind) part.now.params.now }
+    requires sorts { All (λ p. HasNamedSort (length part.now.numbers.now.values) p.kind)
+        part.now.params.now }
     requires ids { AreIds (length (T.state terms.old).trees) ids.now }
-    requires symbol { IsSymbol (length (T.state terms.old).declared.symbols) (family (head_of tree.now)) }
+    requires symbol { IsSymbol (length (T.state terms.old).declared.symbols)
+        (family (head_of tree.now)) }
     requires names { AreNamed (widths (T.state terms.old).declared) indices.now }
     requires bits { IsGiven (head_of tree.now) indices.now }
     ensures made { AnswersReduct (T.state terms.old).declared (T.state terms.new).trees
@@ -166,9 +171,11 @@ pub(crate) fn reduct<T: Terms>(
     ids: &[TermId],
 ) -> Result<TermId, InstFault>
     requires part { IsPartOf (T.state terms.old) part.now }
-    requires sorts { All (λ p. HasNamedSort (length part.now.numbers.now.values) p.kind) part.now.params.now }
+    requires sorts { All (λ p. HasNamedSort (length part.now.numbers.now.values) p.kind)
+        part.now.params.now }
     requires ids { AreIds (length (T.state terms.old).trees) ids.now }
-    requires symbol { IsSymbol (length (T.state terms.old).declared.symbols) (family (head_of tree.now)) }
+    requires symbol { IsSymbol (length (T.state terms.old).declared.symbols)
+        (family (head_of tree.now)) }
     requires names { AreNamed (widths (T.state terms.old).declared) indices.now }
     requires bits { IsGiven (head_of tree.now) indices.now }
     ensures made { AnswersReduct (T.state terms.old).declared (T.state terms.new).trees

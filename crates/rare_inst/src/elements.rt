@@ -24,7 +24,8 @@ use std::alloc::{AllocError, Global};
 /// The width of a sort of bit vectors, and 0 of another sort.
 fn width_of_sort(alloc: Global, sort: &Sort) -> Result<Linear, AllocError>
     ensures value { IfOk result (λ w. w ≡ width_or_zero sort.now) }
-    ensures named { (n : ℕ) → IsTrue (is_named_sort n sort.now) → IfOk result (λ w. NamesBelow n w.parts) }
+    ensures named { (n : ℕ) → IsTrue (is_named_sort n sort.now) →
+        IfOk result (λ w. NamesBelow n w.parts) }
 {
     match sort {
         Sort::BitVec(width) => width.copy(alloc),
@@ -35,7 +36,8 @@ fn width_of_sort(alloc: Global, sort: &Sort) -> Result<Linear, AllocError>
 /// The width of an argument that is a sort of bit vectors, and 0 of another.
 fn width_of_arg(alloc: Global, arg: &Arg) -> Result<Linear, AllocError>
     ensures value { IfOk result (λ w. w ≡ width_or_zero (sort_standing (Some arg.now))) }
-    ensures named { (s : State) → IsGiven s arg.now → IfOk result (λ w. NamesBelow (widths s.declared) w.parts) }
+    ensures named { (s : State) → IsGiven s arg.now →
+        IfOk result (λ w. NamesBelow (widths s.declared) w.parts) }
 {
     match arg {
         Arg::Sort(sort) => width_of_sort(alloc, sort),
@@ -46,7 +48,8 @@ fn width_of_arg(alloc: Global, arg: &Arg) -> Result<Linear, AllocError>
 /// The width of the sort that stands for name `k`, and 0 where it is no sort of bit vectors.
 fn width_of_name(alloc: Global, args: &[Arg], k: u32) -> Result<Linear, AllocError>
     ensures value { IfOk result (λ w. w ≡ width_or_zero (sort_standing (slice_get args.now k))) }
-    ensures named { (s : State) → AreGiven s args.now → IfOk result (λ w. NamesBelow (widths s.declared) w.parts) }
+    ensures named { (s : State) → AreGiven s args.now →
+        IfOk result (λ w. NamesBelow (widths s.declared) w.parts) }
 {
     match args.get(k as usize) {
         Some(arg) => width_of_arg(alloc, arg),
@@ -57,9 +60,11 @@ fn width_of_name(alloc: Global, args: &[Arg], k: u32) -> Result<Linear, AllocErr
 /// The width with what stands for its names, which is within `i128`.
 fn width_put(alloc: Global, numbers: &Numbers, width: &Linear) -> Result<Linear, AllocError>
     requires { NamesBelow (length numbers.now.values) width.now.parts }
-    ensures value { (a : Substitution) → StandsFor a numbers.now → spec.is_put_within a width.now ≡ true →
+    ensures value { (a : Substitution) → StandsFor a numbers.now →
+        spec.is_put_within a width.now ≡ true →
         IfOk result (λ w. w ≡ substitute a.number width.now) }
-    ensures named { (n : ℕ) → AreNamed n numbers.now.values → IfOk result (λ w. NamesBelow n w.parts) }
+    ensures named { (n : ℕ) → AreNamed n numbers.now.values →
+        IfOk result (λ w. NamesBelow n w.parts) }
 {
     match numbers.put(width)? {
         Some(put) => Ok(put),
@@ -79,7 +84,8 @@ fn width_of_elements(
     ensures value { (a : Substitution) → StandsFor a numbers.now → HasSorts a args.now →
         is_sort_within a sort.now ≡ true →
         IfOk result (λ w. w ≡ width_or_zero (spec.put_sort a.number a.sort sort.now)) }
-    ensures named { (s : State) → AreGiven s args.now → AreNamed (widths s.declared) numbers.now.values →
+    ensures named { (s : State) → AreGiven s args.now →
+        AreNamed (widths s.declared) numbers.now.values →
         IfOk result (λ w. NamesBelow (widths s.declared) w.parts) }
 {
     match sort {
@@ -92,9 +98,11 @@ fn width_of_elements(
 /// The width of the elements of a list of this kind of parameter, and 0 of another kind.
 fn width_of_kind(alloc: Global, part: &Part, kind: &ParamKind) -> Result<Linear, AllocError>
     requires { HasNamedSort (length part.now.numbers.now.values) kind.now }
-    ensures value { (s : State) → IsPartOf s part.now → HasSortWithin (putting s part.now) kind.now →
+    ensures value { (s : State) → IsPartOf s part.now →
+        HasSortWithin (putting s part.now) kind.now →
         IfOk result (λ w. w ≡ width_or_zero (put_elements (putting s part.now) (Some kind.now))) }
-    ensures named { (s : State) → IsPartOf s part.now → IfOk result (λ w. NamesBelow (widths s.declared) w.parts) }
+    ensures named { (s : State) → IsPartOf s part.now →
+        IfOk result (λ w. NamesBelow (widths s.declared) w.parts) }
 {
     match kind {
         ParamKind::List(sort) => width_of_elements(alloc, part.numbers, part.args, sort),
@@ -104,10 +112,13 @@ fn width_of_kind(alloc: Global, part: &Part, kind: &ParamKind) -> Result<Linear,
 
 /// The width of the elements of the parameter `k`, and 0 where it is no list.
 fn width_of_param(alloc: Global, part: &Part, k: u32) -> Result<Linear, AllocError>
-    requires { All (λ p. HasNamedSort (length part.now.numbers.now.values) p.kind) part.now.params.now }
+    requires { All (λ p. HasNamedSort (length part.now.numbers.now.values) p.kind)
+        part.now.params.now }
     ensures value { (s : State) → IsPartOf s part.now →
-        IfOk result (λ w. w ≡ width_or_zero (put_elements (putting s part.now) (kind_at part.now.params.now k))) }
-    ensures named { (s : State) → IsPartOf s part.now → IfOk result (λ w. NamesBelow (widths s.declared) w.parts) }
+        IfOk result (λ w. w ≡ width_or_zero
+        (put_elements (putting s part.now) (kind_at part.now.params.now k))) }
+    ensures named { (s : State) → IsPartOf s part.now →
+        IfOk result (λ w. NamesBelow (widths s.declared) w.parts) }
 {
     match part.params.get(k as usize) {
         Some(param) => width_of_kind(alloc, part, &param.kind),
@@ -117,10 +128,12 @@ fn width_of_param(alloc: Global, part: &Part, k: u32) -> Result<Linear, AllocErr
 
 /// The width of the elements of what stands for name `k`, and 0 where it is a term.
 fn width_of_group(alloc: Global, part: &Part, k: u32) -> Result<Linear, AllocError>
-    requires { All (λ p. HasNamedSort (length part.now.numbers.now.values) p.kind) part.now.params.now }
+    requires { All (λ p. HasNamedSort (length part.now.numbers.now.values) p.kind)
+        part.now.params.now }
     ensures value { (s : State) → IsPartOf s part.now →
         IfOk result (λ w. w ≡ width_or_zero ((putting s part.now).group k).element) }
-    ensures named { (s : State) → IsPartOf s part.now → IfOk result (λ w. NamesBelow (widths s.declared) w.parts) }
+    ensures named { (s : State) → IsPartOf s part.now →
+        IfOk result (λ w. NamesBelow (widths s.declared) w.parts) }
 {
     match part.args.get(k as usize) {
         Some(Arg::Term(_)) => Ok(Linear::constant(alloc, 0)),
@@ -134,10 +147,13 @@ pub(crate) fn width_of_first(
     part: &Part,
     args: &[Tree],
 ) -> Result<Linear, AllocError>
-    requires { All (λ p. HasNamedSort (length part.now.numbers.now.values) p.kind) part.now.params.now }
+    requires { All (λ p. HasNamedSort (length part.now.numbers.now.values) p.kind)
+        part.now.params.now }
     ensures value { (s : State) → IsPartOf s part.now →
-        IfOk result (λ w. w ≡ width_or_zero (first_sort (map (instance (putting s part.now)) args.now))) }
-    ensures named { (s : State) → IsPartOf s part.now → IfOk result (λ w. NamesBelow (widths s.declared) w.parts) }
+        IfOk result (λ w. w ≡ width_or_zero
+        (first_sort (map (instance (putting s part.now)) args.now))) }
+    ensures named { (s : State) → IsPartOf s part.now →
+        IfOk result (λ w. NamesBelow (widths s.declared) w.parts) }
 {
     match args {
         [first, ..] => match first.head {

@@ -40,7 +40,8 @@ pub(crate) fn has_widths<T: Terms>(
     sort: &Sort,
 ) -> Result<bool, AllocError>
     requires { IsTrue (is_named_sort (widths (T.state terms.now).declared) sort.now) }
-    ensures { IfOk result (λ b. b ≡ all_follow (T.state terms.now).declared (width_needs sort.now)) }
+    ensures { IfOk result (λ b. b ≡ all_follow (T.state terms.now).declared
+        (width_needs sort.now)) }
 {
     match sort {
         Sort::BitVec(width) => is_at_least_one(alloc, terms, width),

@@ -1,5 +1,5 @@
 //! The instance of a rule at its arguments.
-ghost use Rattle.std.specs.Prelude.{◌≡◌, ◌<◌, ◌++◌, All, None, OnOk, length, map};
+ghost use Rattle.std.specs.Prelude.{◌≡◌, ◌<◌, ◌++◌, All, None, OnOk, Some, length, map};
 ghost use Rattle.rare_sort.specs.DeclaredSorts.{IsSymbol};
 ghost use Rattle.rare_sort.specs.Families.{family};
 ghost use Rattle.rare_sort.specs.Ids.{AreIds, trees_at};
@@ -21,7 +21,7 @@ ghost use Rattle.rare_inst.specs.inner.Sites.{HasNamedSort};
 use crate::arg::Arg;
 use crate::collapse::reduct;
 use crate::fault::InstFault;
-use crate::part::{Hole, Part, Side, group_of, has_too_few, in_hole, only};
+use crate::part::{Hole, Part, Side, group_of, has_too_few, hole_of, in_hole, only};
 use crate::totals::numbers_of;
 use rare_rule::{Rule, Typed};
 use rare_sort::{Head, Ids, TermId, Tree};
@@ -37,11 +37,14 @@ fn application<T: Terms>(
     ids: &[TermId],
 ) -> Result<TermId, InstFault>
     requires part { IsPartOf (T.state terms.old) part.now }
-    requires sorts { All (λ p. HasNamedSort (length part.now.numbers.now.values) p.kind) part.now.params.now }
+    requires sorts { All (λ p. HasNamedSort (length part.now.numbers.now.values) p.kind)
+        part.now.params.now }
     requires ids { AreIds (length (T.state terms.old).trees) ids.now }
-    requires symbol { IsSymbol (length (T.state terms.old).declared.symbols) (family (head_of tree.now)) }
+    requires symbol { IsSymbol (length (T.state terms.old).declared.symbols)
+        (family (head_of tree.now)) }
     requires tree { IsRuleTree (length part.now.numbers.now.values) tree.now }
-    ensures made { AnswersMade (T.state terms.new).trees (applied_fault (T.state terms.old) part.now tree.now ids.now)
+    ensures made { AnswersMade (T.state terms.new).trees
+        (applied_fault (T.state terms.old) part.now tree.now ids.now)
         (reduct_tree (applied (T.state terms.old) part.now tree.now ids.now)) result }
     ensures grows { Grows (T.state terms.old) (T.state terms.new) }
 {
@@ -60,11 +63,14 @@ fn applied_alone<T: Terms>(
     ids: &[TermId],
 ) -> Result<Ids, InstFault>
     requires part { IsPartOf (T.state terms.old) part.now }
-    requires sorts { All (λ p. HasNamedSort (length part.now.numbers.now.values) p.kind) part.now.params.now }
+    requires sorts { All (λ p. HasNamedSort (length part.now.numbers.now.values) p.kind)
+        part.now.params.now }
     requires ids { AreIds (length (T.state terms.old).trees) ids.now }
-    requires symbol { IsSymbol (length (T.state terms.old).declared.symbols) (family (head_of tree.now)) }
+    requires symbol { IsSymbol (length (T.state terms.old).declared.symbols)
+        (family (head_of tree.now)) }
     requires tree { IsRuleTree (length part.now.numbers.now.values) tree.now }
-    ensures made { AnswersGroup (T.state terms.new).trees (applied_fault (T.state terms.old) part.now tree.now ids.now)
+    ensures made { AnswersGroup (T.state terms.new).trees
+        (applied_fault (T.state terms.old) part.now tree.now ids.now)
         (one_tree (reduct_tree (applied (T.state terms.old) part.now tree.now ids.now))) result }
     ensures grows { Grows (T.state terms.old) (T.state terms.new) }
 {
@@ -81,10 +87,12 @@ fn at_node<T: Terms>(
     ids: &[TermId],
 ) -> Result<Ids, InstFault>
     requires part { IsPartOf (T.state terms.old) part.now }
-    requires sorts { All (λ p. HasNamedSort (length part.now.numbers.now.values) p.kind) part.now.params.now }
+    requires sorts { All (λ p. HasNamedSort (length part.now.numbers.now.values) p.kind)
+        part.now.params.now }
     requires ids { AreIds (length (T.state terms.old).trees) ids.now }
     requires tree { IsRuleTree (length part.now.numbers.now.values) tree.now }
-    ensures made { AnswersGroup (T.state terms.new).trees (own_fault_at (T.state terms.old) part.now tree.now ids.now)
+    ensures made { AnswersGroup (T.state terms.new).trees
+        (own_fault_at (T.state terms.old) part.now tree.now ids.now)
         (node_group (T.state terms.old) part.now tree.now ids.now) result }
     ensures grows { Grows (T.state terms.old) (T.state terms.new) }
 {
@@ -113,10 +121,12 @@ fn at_counted_node<T: Terms>(
     ids: &[TermId],
 ) -> Result<Ids, InstFault>
     requires part { IsPartOf (T.state terms.old) part.now }
-    requires sorts { All (λ p. HasNamedSort (length part.now.numbers.now.values) p.kind) part.now.params.now }
+    requires sorts { All (λ p. HasNamedSort (length part.now.numbers.now.values) p.kind)
+        part.now.params.now }
     requires ids { AreIds (length (T.state terms.old).trees) ids.now }
     requires tree { IsRuleTree (length part.now.numbers.now.values) tree.now }
-    ensures made { AnswersGroup (T.state terms.new).trees (fault_at (T.state terms.old) part.now tree.now ids.now)
+    ensures made { AnswersGroup (T.state terms.new).trees
+        (fault_at (T.state terms.old) part.now tree.now ids.now)
         (node_group (T.state terms.old) part.now tree.now ids.now) result }
     ensures grows { Grows (T.state terms.old) (T.state terms.new) }
 {
@@ -144,9 +154,11 @@ fn instance_of<T: Terms>(
     tree: &Tree,
 ) -> Result<Ids, InstFault>
     requires part { IsPartOf (T.state terms.old) part.now }
-    requires sorts { All (λ p. HasNamedSort (length part.now.numbers.now.values) p.kind) part.now.params.now }
+    requires sorts { All (λ p. HasNamedSort (length part.now.numbers.now.values) p.kind)
+        part.now.params.now }
     requires tree { IsRuleTree (length part.now.numbers.now.values) tree.now }
-    ensures made { AnswersGroup (T.state terms.new).trees (part_fault (T.state terms.old) part.now tree.now)
+    ensures made { AnswersGroup (T.state terms.new).trees
+        (part_fault (T.state terms.old) part.now tree.now)
         (part_group (T.state terms.old) part.now tree.now) result }
     ensures grows { Grows (T.state terms.old) (T.state terms.new) }
 {
@@ -166,12 +178,14 @@ fn term_of<T: Terms>(
     tree: &Tree,
 ) -> Result<TermId, InstFault>
     requires part { IsPartOf (T.state terms.old) part.now }
-    requires sorts { All (λ p. HasNamedSort (length part.now.numbers.now.values) p.kind) part.now.params.now }
+    requires sorts { All (λ p. HasNamedSort (length part.now.numbers.now.values) p.kind)
+        part.now.params.now }
     requires tree { IsRuleTree (length part.now.numbers.now.values) tree.now }
     requires alone { part_fault (T.state terms.old) part.now tree.now ≡ None →
         IsAlone (part_group (T.state terms.old) part.now tree.now) }
     ensures made { AnswersPart (T.state terms.new).trees result (spec.unless_faulty
-        (part_fault (T.state terms.old) part.now tree.now) (part_group (T.state terms.old) part.now tree.now)) }
+        (part_fault (T.state terms.old) part.now tree.now)
+        (part_group (T.state terms.old) part.now tree.now)) }
     ensures grows { Grows (T.state terms.old) (T.state terms.new) }
 {
     let ids = instance_of(alloc, terms, part, tree)?;
@@ -203,7 +217,8 @@ fn part_instance<T: Terms>(
     requires typed { IsTypedRule rule.now }
     requires tree { IsRuleTree (length rule.now.rule.params) tree.now }
     requires sort { (s : Sort) × TypesAs rule.now.rule tree.now s }
-    ensures made { AnswersPart (T.state terms.new).trees result (spec.part_of (T.state terms.old).declared
+    ensures made { AnswersPart (T.state terms.new).trees result
+        (spec.part_of (T.state terms.old).declared
         rule.now.rule (arguments_of (T.state terms.old).trees args.now) (side_of side) tree.now) }
     ensures grows { Grows (T.state terms.old) (T.state terms.new) }
 {
@@ -216,6 +231,42 @@ fn part_instance<T: Terms>(
         hole: Hole::Nothing,
     };
     term_of(alloc, terms, &part, tree)
+}
+
+/// What the context becomes with what was made of the right side in its hole.
+fn context_instance<T: Terms>(
+    alloc: Global,
+    terms: &mut T,
+    rule: &Typed,
+    args: &[Arg],
+    right: Result<TermId, InstFault>,
+    context: &Tree,
+) -> Result<TermId, InstFault>
+    requires count { length args.now ≡ length rule.now.rule.params }
+    requires args { AreGiven (T.state terms.old) args.now }
+    requires admitted { IsAdmitted (T.state terms.old).declared rule.now
+        (arguments_of (T.state terms.old).trees args.now) }
+    requires typed { IsTypedRule rule.now }
+    requires context { rule.now.rule.context ≡ Some context.now }
+    requires right { AnswersPart (T.state terms.old).trees right
+        (spec.part_of (T.state terms.old).declared
+        rule.now.rule (arguments_of (T.state terms.old).trees args.now) spec.OtherSide
+        rule.now.rule.right) }
+    ensures made { AnswersPart (T.state terms.new).trees result
+        (spec.result_of (T.state terms.old).declared
+        rule.now.rule (arguments_of (T.state terms.old).trees args.now)) }
+    ensures grows { Grows (T.state terms.old) (T.state terms.new) }
+{
+    let hole = hole_of(right)?;
+    let numbers = numbers_of(alloc, terms, args)?;
+    let part = Part {
+        params: rule.rule().params.items(),
+        args,
+        numbers: &numbers,
+        side: Side::Other,
+        hole,
+    };
+    term_of(alloc, terms, &part, context)
 }
 
 /// The left side at arguments that the rule admits.
@@ -233,7 +284,8 @@ pub fn left_instance<T: Terms>(
     requires args { AreGiven (T.state terms.old) args.now }
     requires admitted { IsAdmitted (T.state terms.old).declared rule.now
         (arguments_of (T.state terms.old).trees args.now) }
-    ensures made { AnswersPart (T.state terms.new).trees result (spec.left_of (T.state terms.old).declared
+    ensures made { AnswersPart (T.state terms.new).trees result
+        (spec.left_of (T.state terms.old).declared
         rule.now.rule (arguments_of (T.state terms.old).trees args.now)) }
     ensures grows { Grows (T.state terms.old) (T.state terms.new) }
 {
@@ -257,10 +309,39 @@ pub fn premise_instance<T: Terms>(
     requires admitted { IsAdmitted (T.state terms.old).declared rule.now
         (arguments_of (T.state terms.old).trees args.now) }
     requires k { k < length rule.now.rule.premises }
-    ensures made { AnswersPart (T.state terms.new).trees result (spec.premise_of (T.state terms.old).declared
+    ensures made { AnswersPart (T.state terms.new).trees result
+        (spec.premise_of (T.state terms.old).declared
         rule.now.rule (arguments_of (T.state terms.old).trees args.now) k) }
     ensures grows { Grows (T.state terms.old) (T.state terms.new) }
 {
     let parts = rule_of(rule);
     part_instance(alloc, terms, rule, args, Side::Other, parts.premises.get(k))
+}
+
+/// The right side at arguments that the rule admits, or its context with the right side in the hole.
+///
+/// Errors are those of the first node that has one, an application's arguments before itself, and
+/// those of the right side where the hole is: `EmptyConcat`, `Limit`; `Memory`. After an error the
+/// terms may have grown, and old ids stand.
+pub fn right_instance<T: Terms>(
+    alloc: Global,
+    terms: &mut T,
+    rule: &Typed,
+    args: &[Arg],
+) -> Result<TermId, InstFault>
+    requires count { length args.now ≡ length rule.now.rule.params }
+    requires args { AreGiven (T.state terms.old) args.now }
+    requires admitted { IsAdmitted (T.state terms.old).declared rule.now
+        (arguments_of (T.state terms.old).trees args.now) }
+    ensures made { AnswersPart (T.state terms.new).trees result
+        (spec.result_of (T.state terms.old).declared
+        rule.now.rule (arguments_of (T.state terms.old).trees args.now)) }
+    ensures grows { Grows (T.state terms.old) (T.state terms.new) }
+{
+    let parts = rule_of(rule);
+    let right = part_instance(alloc, terms, rule, args, Side::Other, &parts.right);
+    match &parts.context {
+        Some(context) => context_instance(alloc, terms, rule, args, right, context),
+        None => right,
+    }
 }

@@ -23,7 +23,7 @@ mod values;
 pub use admission::admit;
 pub use arg::{Arg, Args};
 pub use fault::InstFault;
-pub use instance::{left_instance, premise_instance};
+pub use instance::{left_instance, premise_instance, right_instance};
 pub use laws::{
     instances_are_sorted, instances_mean_as_rules, instances_of_written_rules,
     rules_that_hold_apply,

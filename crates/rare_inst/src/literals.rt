@@ -85,7 +85,8 @@ fn is_value_of(value: Option<i128>, width: Option<i128>) -> bool
 /// The number that the expression is with what stands for its names.
 fn number_put(numbers: &Numbers, e: &Linear) -> Result<Option<i128>, AllocError>
     requires { NamesBelow (length numbers.now.values) e.now.parts }
-    ensures { (a : Substitution) → StandsFor a numbers.now → IfOk result (λ o. o ≡ spec.put_number a e.now) }
+    ensures { (a : Substitution) → StandsFor a numbers.now →
+        IfOk result (λ o. o ≡ spec.put_number a e.now) }
 {
     match numbers.put(e)? {
         Some(sum) => Ok(number_of(&sum)),

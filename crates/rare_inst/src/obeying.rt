@@ -47,7 +47,8 @@ fn has_sort<T: Terms>(terms: &T, id: TermId, sort: &Sort) -> bool
 /// Whether each term has the sort.
 fn have_sort<T: Terms>(terms: &T, ids: &[TermId], sort: &Sort) -> bool
     requires { AreIds (length (T.state terms.now).trees) ids.now }
-    ensures { result ≡ list_all (λ t. sort_eq (sort_of (T.state terms.now).declared.symbols t) sort.now)
+    ensures { result ≡ list_all
+        (λ t. sort_eq (sort_of (T.state terms.now).declared.symbols t) sort.now)
         (trees_at (T.state terms.now).trees ids.now) }
 {
     for id in ids {
@@ -91,7 +92,8 @@ fn obeys_list<T: Terms>(
     requires sort { IsTrue (is_named_sort (length site.now.numbers.now.values) sort.now) }
     ensures { (a : Substitution) → IsPutAt a site.now →
         IfOk result (λ b. b ≡ (is_sort_within a sort.now
-        && list_all (spec.has_put_sort (T.state terms.now).declared (nodes_of site.now.left.now) a sort.now)
+        && list_all (spec.has_put_sort (T.state terms.now).declared (nodes_of site.now.left.now) a
+        sort.now)
         (trees_at (T.state terms.now).trees ids.now))) }
 {
     match put_sort(alloc, site.numbers, site.args, sort)? {
@@ -120,7 +122,8 @@ fn obeys_width<T: Terms>(
     requires names { NamesBelow (widths (T.state terms.now).declared) e.now.parts }
     requires left { IsRuleTree (length site.now.numbers.now.values) site.now.left.now }
     ensures { (a : Substitution) → IsPutAt a site.now → a.number k ≡ e.now →
-        IfOk result (λ b. b ≡ spec.obeys_kind (T.state terms.now).declared (nodes_of site.now.left.now) a k
+        IfOk result (λ b. b ≡ spec.obeys_kind (T.state terms.now).declared
+        (nodes_of site.now.left.now) a k
         kind.Width (OfLinear e.now)) }
 {
     let positive = is_at_least_one(alloc, terms, e)?;
@@ -133,7 +136,8 @@ fn obeys_index<T: Terms>(terms: &T, site: &Site, k: usize, e: &Linear) -> Result
     requires names { NamesBelow (widths (T.state terms.now).declared) e.now.parts }
     requires left { IsRuleTree (length site.now.numbers.now.values) site.now.left.now }
     ensures { (a : Substitution) → IsPutAt a site.now → a.number k ≡ e.now →
-        IfOk result (λ b. b ≡ spec.obeys_kind (T.state terms.now).declared (nodes_of site.now.left.now) a k
+        IfOk result (λ b. b ≡ spec.obeys_kind (T.state terms.now).declared
+        (nodes_of site.now.left.now) a k
         kind.Index (OfLinear e.now)) }
 {
     let natural = terms.entailed(e);
@@ -156,7 +160,8 @@ fn obeys_kind<T: Terms>(
     ensures { (a : Substitution) → IsPutAt a site.now →
         a.number k ≡ number_given (T.state terms.now).declared.symbols
         (Some (argument_of (T.state terms.now).trees arg.now)) →
-        IfOk result (λ b. b ≡ spec.obeys_kind (T.state terms.now).declared (nodes_of site.now.left.now) a k
+        IfOk result (λ b. b ≡ spec.obeys_kind (T.state terms.now).declared
+        (nodes_of site.now.left.now) a k
         kind.now (argument_of (T.state terms.now).trees arg.now)) }
 {
     match (kind, arg) {
@@ -205,7 +210,8 @@ pub(crate) fn obeys<T: Terms>(
     ensures { (a : Substitution) → IsPutAt a site.now →
         a.number k ≡ number_given (T.state terms.now).declared.symbols
         (Some (argument_of (T.state terms.now).trees arg.now)) →
-        IfOk result (λ b. b ≡ spec.obeys (T.state terms.now).declared (nodes_of site.now.left.now) a k
+        IfOk result (λ b. b ≡ spec.obeys (T.state terms.now).declared (nodes_of site.now.left.now) a
+        k
         param.now (Some (argument_of (T.state terms.now).trees arg.now))) }
 {
     let is_of_kind = obeys_kind(alloc, terms, site, k, &param.kind, arg)?;

@@ -1,12 +1,14 @@
 //! What a part of a rule is put together from.
-ghost use Rattle.std.specs.Prelude.{◌≡◌, ◌∷◌, [], List, length, slice_get, Some, IfOk};
+ghost use Rattle.std.specs.Prelude.{◌≡◌, ◌∷◌, [], List, length, slice_get, Result, Some, IfOk};
 ghost use Rattle.rare_sort.specs.Sorting as sorting;
 ghost use Rattle.rare_sort.specs.Trees.{args_of, head_of};
 ghost use Rattle.rare_sort.specs.declared.tree.Tree.{Tree};
 ghost use Rattle.rare_rule.specs.Holds.{has_list};
 ghost use Rattle.rare_rule.specs.Params.{is_list_head, is_list_kind};
+ghost use Rattle.rare_inst.specs.Answers.{AnswersPart};
 ghost use Rattle.rare_inst.specs.Instance as spec;
-ghost use Rattle.rare_inst.specs.inner.Making.{AnswersHole, ids_given, side_of};
+ghost use Rattle.rare_inst.specs.declared.fault.InstFault.{InstFault};
+ghost use Rattle.rare_inst.specs.inner.Making.{AnswersHeld, AnswersHole, ids_given, side_of};
 
 use crate::arg::{Arg, copy_ids};
 use crate::fault::InstFault;
@@ -118,5 +120,17 @@ pub(crate) fn in_hole(alloc: Global, hole: Hole) -> Result<Ids, InstFault>
         Hole::Nothing => Ok(Ids::new(alloc)),
         Hole::Term(id) => Ok(only(alloc, id)?),
         Hole::Fault(fault) => Err(fault),
+    }
+}
+
+/// The hole with what was made of the part that stands there. The error is want of memory.
+pub(crate) fn hole_of(made: Result<TermId, InstFault>) -> Result<Hole, InstFault>
+    ensures { (ts : List Tree) (part : Result Tree InstFault) → AnswersPart ts made part →
+        AnswersHeld ts part result }
+{
+    match made {
+        Ok(id) => Ok(Hole::Term(id)),
+        Err(InstFault::Memory) => Err(InstFault::Memory),
+        Err(fault) => Ok(Hole::Fault(fault)),
     }
 }

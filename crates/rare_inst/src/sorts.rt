@@ -38,8 +38,10 @@ pub(crate) fn width_of(sort: &Sort) -> Option<&Linear>
 pub(crate) fn width_of_term<T: Terms>(terms: &T, id: TermId) -> Option<&Linear>
     requires { id.0 < length (T.state terms.now).trees }
     ensures width { option_map (λ m. m.now) result
-        ≡ width (sort_of (T.state terms.now).declared.symbols (tree_at (T.state terms.now).trees id.0)) }
-    ensures named { IfSome result (λ m. NamesBelow (widths (T.state terms.now).declared) m.now.parts) }
+        ≡ width (sort_of (T.state terms.now).declared.symbols
+        (tree_at (T.state terms.now).trees id.0)) }
+    ensures named { IfSome result
+        (λ m. NamesBelow (widths (T.state terms.now).declared) m.now.parts) }
     ensures normal { HasNormalWidth
         (sort_of (T.state terms.now).declared.symbols (tree_at (T.state terms.now).trees id.0)) }
 {
@@ -52,7 +54,8 @@ pub(crate) fn width_of_term<T: Terms>(terms: &T, id: TermId) -> Option<&Linear>
 /// Whether all terms are bit vectors.
 pub(crate) fn are_words<T: Terms>(terms: &T, ids: &[TermId]) -> bool
     requires { AreIds (length (T.state terms.now).trees) ids.now }
-    ensures { result ≡ list_all (λ t. is_some (width (sort_of (T.state terms.now).declared.symbols t)))
+    ensures { result ≡ list_all
+        (λ t. is_some (width (sort_of (T.state terms.now).declared.symbols t)))
         (trees_at (T.state terms.now).trees ids.now) }
 {
     for id in ids {

@@ -38,7 +38,8 @@ impl Numbers {
     /// total in it isn't formed.
     pub(crate) fn put(&self, e: &Linear) -> Result<Option<Linear>, AllocError>
         requires { NamesBelow (length self.now.values) e.now.parts }
-        ensures value { (a : Substitution) → StandsFor a self.now → IfOk result (λ o. o ≡ put_within a e.now) }
+        ensures value { (a : Substitution) → StandsFor a self.now →
+            IfOk result (λ o. o ≡ put_within a e.now) }
         ensures named { (n : ℕ) → AreNamed n self.now.values →
             IfOk result (λ o. IfSome o (λ s. NamesBelow n s.parts)) }
     {
@@ -59,8 +60,10 @@ impl Numbers {
         es: &[Linear],
     ) -> Result<Option<Linears>, AllocError>
         requires { AreNamed (length self.now.values) es.now }
-        ensures value { (a : Substitution) → StandsFor a self.now → IfOk result (λ o. o ≡ put_all_within a es.now) }
-        ensures named { (n : ℕ) → AreNamed n self.now.values → IfOk result (λ o. IfSome o (AreNamed n)) }
+        ensures value { (a : Substitution) → StandsFor a self.now →
+            IfOk result (λ o. o ≡ put_all_within a es.now) }
+        ensures named { (n : ℕ) → AreNamed n self.now.values →
+            IfOk result (λ o. IfSome o (AreNamed n)) }
     {
         let mut all = Linears::new(alloc);
         for e in es {

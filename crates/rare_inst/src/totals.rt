@@ -26,7 +26,8 @@ use std::alloc::{AllocError, Global};
 #[tactic(auto, using(crate::proofs::Withins::given_within, crate::proofs::Withins::none_within))]
 fn plus(a: &Linear, b: &Linear) -> Result<Option<Linear>, AllocError>
     ensures value { IfOk result (λ o. o ≡ within (add a.now b.now)) }
-    ensures named { IfOk result (λ o. (n : ℕ) → NamesBelow n a.now.parts → NamesBelow n b.now.parts →
+    ensures named { IfOk result (λ o. (n : ℕ) → NamesBelow n a.now.parts →
+        NamesBelow n b.now.parts →
         IfSome o (λ s. NamesBelow n s.parts)) }
 {
     match a.add(b) {
@@ -38,7 +39,8 @@ fn plus(a: &Linear, b: &Linear) -> Result<Option<Linear>, AllocError>
 
 /// The sum with a width more, if there is one.
 fn with_width(sum: Linear, width: Option<&Linear>) -> Result<Option<Linear>, AllocError>
-    ensures value { IfOk result (λ o. o ≡ plus_width (Some sum) (option_map (λ m. m.now) width.entry)) }
+    ensures value { IfOk result
+        (λ o. o ≡ plus_width (Some sum) (option_map (λ m. m.now) width.entry)) }
     ensures named { IfOk result (λ o. (n : ℕ) → NamesBelow n sum.parts →
         IfSome width.entry (λ m. NamesBelow n m.now.parts) → IfSome o (λ s. NamesBelow n s.parts)) }
 {
@@ -56,8 +58,10 @@ fn with_term<T: Terms>(
 ) -> Result<Option<Linear>, AllocError>
     requires { id.0 < length (T.state terms.now).trees }
     ensures value { IfOk result (λ o. o ≡ plus_width sum
-        (width (sort_of (T.state terms.now).declared.symbols (tree_at (T.state terms.now).trees id.0)))) }
-    ensures named { IfOk result (λ o. IfSome sum (λ s. NamesBelow (widths (T.state terms.now).declared) s.parts) →
+        (width (sort_of (T.state terms.now).declared.symbols
+        (tree_at (T.state terms.now).trees id.0)))) }
+    ensures named { IfOk result
+        (λ o. IfSome sum (λ s. NamesBelow (widths (T.state terms.now).declared) s.parts) →
         IfSome o (λ s. NamesBelow (widths (T.state terms.now).declared) s.parts)) }
     ensures normal { HasNormalWidth
         (sort_of (T.state terms.now).declared.symbols (tree_at (T.state terms.now).trees id.0)) }
@@ -78,10 +82,13 @@ fn sum_of_widths<T: Terms>(
 ) -> Result<Option<Linear>, AllocError>
     requires { AreIds (length (T.state terms.now).trees) ids.now }
     ensures value { IfOk result (λ o. o ≡ plus_widths (Some (number (pos 0)))
-        (term_widths (T.state terms.now).declared.symbols (trees_at (T.state terms.now).trees ids.now))) }
-    ensures named { IfOk result (λ o. IfSome o (λ s. NamesBelow (widths (T.state terms.now).declared) s.parts)) }
+        (term_widths (T.state terms.now).declared.symbols
+        (trees_at (T.state terms.now).trees ids.now))) }
+    ensures named { IfOk result
+        (λ o. IfSome o (λ s. NamesBelow (widths (T.state terms.now).declared) s.parts)) }
     ensures normal { OnOk result (All (λ id. HasNormalWidth
-        (sort_of (T.state terms.now).declared.symbols (tree_at (T.state terms.now).trees id.0))) ids.now) }
+        (sort_of (T.state terms.now).declared.symbols (tree_at (T.state terms.now).trees id.0)))
+        ids.now) }
 {
     let mut sum = Some(Linear::constant(alloc, 0));
     for id in ids {
@@ -96,9 +103,11 @@ fn total<T: Terms>(alloc: Global, terms: &T, ids: &[TermId]) -> Result<Option<Li
     requires { AreIds (length (T.state terms.now).trees) ids.now }
     ensures value { IfOk result (λ o. o ≡ number_within (T.state terms.now).declared.symbols
         (OfList (trees_at (T.state terms.now).trees ids.now))) }
-    ensures named { IfOk result (λ o. IfSome o (λ s. NamesBelow (widths (T.state terms.now).declared) s.parts)) }
+    ensures named { IfOk result
+        (λ o. IfSome o (λ s. NamesBelow (widths (T.state terms.now).declared) s.parts)) }
     ensures normal { OnOk result (All (λ id. HasNormalWidth
-        (sort_of (T.state terms.now).declared.symbols (tree_at (T.state terms.now).trees id.0))) ids.now) }
+        (sort_of (T.state terms.now).declared.symbols (tree_at (T.state terms.now).trees id.0)))
+        ids.now) }
 {
     let sum = sum_of_widths(alloc, terms, ids)?;
     if are_words(terms, ids) {
@@ -115,7 +124,8 @@ fn number_of<T: Terms>(alloc: Global, terms: &T, arg: &Arg) -> Result<Option<Lin
     requires { IsGiven (T.state terms.now) arg.now }
     ensures value { IfOk result (λ o. o ≡ number_within (T.state terms.now).declared.symbols
         (argument_of (T.state terms.now).trees arg.now)) }
-    ensures named { IfOk result (λ o. IfSome o (λ s. NamesBelow (widths (T.state terms.now).declared) s.parts)) }
+    ensures named { IfOk result
+        (λ o. IfSome o (λ s. NamesBelow (widths (T.state terms.now).declared) s.parts)) }
     ensures argument { OnOk result (IsArgument (T.state terms.now).declared
         (argument_of (T.state terms.now).trees arg.now)) }
 {

@@ -22,7 +22,7 @@ use Rattle.rare_inst.specs.Substituting.{TreeGroup, tree_group, one_tree, Substi
 use Rattle.rare_inst.specs.declared.arg.Arg.{Arg}
 use Rattle.rare_inst.specs.declared.arg.Arg.TheVariants as given
 use Rattle.rare_inst.specs.declared.fault.InstFault.{InstFault}
-use Rattle.rare_inst.specs.declared.fault.InstFault.TheVariants.{Limit}
+use Rattle.rare_inst.specs.declared.fault.InstFault.TheVariants.{Limit, Memory}
 use Rattle.rare_inst.specs.declared.part.Hole.{Hole}
 use Rattle.rare_inst.specs.declared.part.Hole.TheVariants as hole
 use Rattle.rare_inst.specs.declared.part.Part.{Part}
@@ -56,6 +56,17 @@ hole_ids h = []
 abbrev pub AnswersHole : Hole → Result (List TermId) InstFault → Type 0
 AnswersHole h (Ok ids) = (ids ≡ hole_ids h) × (hole_fault h ≡ None)
 AnswersHole h (Err f) = IsFault (hole_fault h) f
+
+-- the hole has that part: its term, or the fault for which there is none
+abbrev pub HoldsPart : List Tree → Result Tree InstFault → Hole → Type 0
+HoldsPart ts part hole.Nothing = ⊥
+HoldsPart ts part (hole.Term id) = (id.0 < length ts) × (part ≡ Ok (tree_at ts id.0))
+HoldsPart ts part (hole.Fault f) = part ≡ Err f
+
+-- a hole that has that part, unless memory was wanting
+abbrev pub AnswersHeld : List Tree → Result Tree InstFault → Result Hole InstFault → Type 0
+AnswersHeld ts part (Ok h) = HoldsPart ts part h
+AnswersHeld ts part (Err f) = f ≡ Memory
 
 -- ---- arguments
 

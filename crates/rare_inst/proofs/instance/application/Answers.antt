@@ -1,8 +1,7 @@
-use Rattle.std.proofs.Common.{◌≡◌, List, length, sym, ap, ◌∙◌, subst}
+use Rattle.std.proofs.Common.{List, length, sym, ap, ◌∙◌, subst}
 use Rattle.std.specs.Prelude.{IfSome}
-use Rattle.rare_linear.specs.Linears.{LinearExpression, substitute}
+use Rattle.rare_linear.specs.Linears.{LinearExpression}
 use Rattle.rare_sort.specs.DeclaredSorts.{AreNamed, widths}
-use Rattle.rare_sort.specs.Ids.{trees_at}
 use Rattle.rare_sort.specs.Trees.{head_of, indices_of}
 use Rattle.rare_term.specs.Literals.{IsGiven}
 use Rattle.rare_inst.specs.Collapse.{reduct}

@@ -1,4 +1,4 @@
-use Rattle.std.proofs.Common.{◌≡◌, length, refl, ap, ◌∙◌}
+use Rattle.std.proofs.Common.{length, refl, ap, ◌∙◌}
 use Rattle.rare_rule.specs.declared.rule.Rule.{Rule}
 use Rattle.rare_inst.specs.declared.part.Hole.TheVariants as hole
 use Rattle.rare_inst.specs.declared.part.Part.{Part}

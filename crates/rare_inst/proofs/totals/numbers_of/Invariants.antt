@@ -1,9 +1,9 @@
-use Rattle.std.proofs.Common.{◌≡◌, ℕ, ◌<◌, take, get_or, map, pos}
+use Rattle.std.proofs.Common.{◌≡◌, take, map, pos}
 use Rattle.std.specs.Prelude.{is_some, unwrap_or}
 use Rattle.rare_linear.specs.Linears.{number}
 use Rattle.rare_sort.specs.DeclaredSorts.{widths, AreNamed}
 use Rattle.rare_sort.specs.Each.{Each}
-use Rattle.rare_inst.specs.Arguments.{argument_of, arguments_of}
+use Rattle.rare_inst.specs.Arguments.{arguments_of}
 use Rattle.rare_inst.specs.InstanceLaws.{IsArgument}
 use Rattle.rare_inst.specs.inner.Standing.{number_within}
 use Rattle.rare_inst.proofs.totals.numbers_of.Given as goal

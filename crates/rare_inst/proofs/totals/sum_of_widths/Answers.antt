@@ -1,4 +1,4 @@
-use Rattle.std.proofs.Common.{◌≡◌, ℕ, ◌+◌, get_or, drop, arith, sym, ap, ◌∙◌, below_more, subst, List, Option}
+use Rattle.std.proofs.Common.{◌+◌, get_or, drop, sym, ap, ◌∙◌, below_more, subst, List, Option}
 use Rattle.std.proofs.lemmas.List.{drop_more, get_or_default}
 use Rattle.rare_linear.specs.Linears.{LinearExpression}
 use Rattle.rare_sort.specs.Ids.{tree_at, trees_at}

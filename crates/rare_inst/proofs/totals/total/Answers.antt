@@ -1,8 +1,5 @@
-use Rattle.std.proofs.Common.{◌≡◌, Some, None, Option, sym, ap, ◌∙◌, subst, IfOk}
-use Rattle.rare_linear.specs.Linears.{LinearExpression}
+use Rattle.std.proofs.Common.{Some, sym, ap, ◌∙◌}
 use Rattle.rare_sort.specs.Ids.{trees_at}
-use Rattle.rare_inst.specs.Arguments.{OfList}
-use Rattle.rare_inst.specs.inner.Standing.{number_within}
 use Rattle.rare_inst.proofs.Withins.{total_is, none_is, mixed_is}
 use Rattle.rare_inst.proofs.totals.total.Goals as goal
 use Rattle.rare_inst.proofs.totals.total.Goals.{in-Some, in-None}

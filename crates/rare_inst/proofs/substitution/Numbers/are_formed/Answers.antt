@@ -1,4 +1,4 @@
-use Rattle.std.proofs.Common.{◌≡◌, ◌∙◌, sym}
+use Rattle.std.proofs.Common.{◌∙◌, sym}
 use Rattle.rare_inst.proofs.Putting.{name_below, one_unformed, one_formed}
 use Rattle.rare_inst.proofs.substitution.Numbers.are_formed.Goals as goal
 

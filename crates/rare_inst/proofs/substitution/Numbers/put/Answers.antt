@@ -1,4 +1,4 @@
-use Rattle.std.proofs.Common.{◌≡◌, ◌∙◌, sym, ap, subst, Err, List}
+use Rattle.std.proofs.Common.{◌∙◌, sym, ap, subst, Err, List}
 use Rattle.rare_linear.specs.Linears.{LinearExpression, NamesBelow, substitute, value_at}
 use Rattle.rare_linear.specs.PartialSums.{PartialSumsFit}
 use Rattle.rare_linear.proofs.Names.{NamesBelow-substitute, value_at_below}

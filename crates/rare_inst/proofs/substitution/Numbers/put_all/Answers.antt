@@ -1,4 +1,4 @@
-use Rattle.std.proofs.Common.{Some, sym, ◌∙◌, subst}
+use Rattle.std.proofs.Common.{sym, ◌∙◌, subst}
 use Rattle.std.specs.Prelude.{IfSome}
 use Rattle.rare_linear.specs.Linears.{NamesBelow}
 use Rattle.rare_sort.specs.DeclaredSorts.{AreNamed}
