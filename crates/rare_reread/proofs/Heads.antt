@@ -131,15 +131,15 @@ module _ (held : Held) (r : IsReadable held) (d : Declarations) (ts : List Tree)
   -- ---- operators with indices
 
   abbrev Give : LinearExpression → Sexpr → Type 0
-  Give = Gives (widths_held held) refl
+  Give = Gives (widths_held held)
 
   abbrev pub Indices : List LinearExpression → List Sexpr → Type 0
-  Indices = GiveEach (widths_held held) refl
+  Indices = GiveEach (widths_held held)
 
   pub indices_run : (n : ℕ) (ix : List LinearExpression) → n ≤ length (width_names held) → All (λ l. NamesBelow n l.parts) ix → All IsKeptLinear ix → RunsAs 4 (flat_map (λ u. codes " " ++ u) (index_texts held ix)) (Indices ix)
-  indices_run n [] le named kept = none_gives (widths_held held) refl 4
+  indices_run n [] le named kept = none_gives (widths_held held) 4
   indices_run n (l ∷ ix) le named kept =
-      more_gives (widths_held held) refl 4 (linear_text (width_names held) l) (flat_map (λ u. codes " " ++ u) (index_texts held ix)) l ix
+      more_gives (widths_held held) 4 (linear_text (width_names held) l) (flat_map (λ u. codes " " ++ u) (index_texts held ix)) l ix
       (linear_reads held l r (kept 0 l (omega arith)) (below_more n (length (width_names held)) l.parts le (named 0 l (omega arith))))
       (indices_run n ix le (λ i e lt. named (suc i) e (omega arith)) (λ i e lt. kept (suc i) e (omega arith)))
 

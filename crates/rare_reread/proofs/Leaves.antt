@@ -1,19 +1,17 @@
 -- Terms without arguments, read.
-use Rattle.std.proofs.Common.{◌≡◌, ℕ, ◌<◌, ◌≤◌, ◌^◌, true, false, ◌&&◌, List, [], ◌∷◌, ◌++◌, map, length, take, drop, bytes_eq, Option, Some, None, Ok, refl, ap, ◌∙◌, arith, if◌then◌else◌}
+use Rattle.std.proofs.Common.{◌≡◌, ℕ, ◌<◌, ◌≤◌, ◌^◌, true, false, List, [], ◌∷◌, ◌++◌, map, length, Option, Some, None, Ok, refl, ap, ◌∙◌, arith, if◌then◌else◌}
 use Rattle.std.specs.Prelude.{codes, slice_index_or, nat_eq, pos}
 use Rattle.std.specs.Fmt.{decimal}
 use Rattle.std.proofs.lemmas.Bool.{lt-ltb}
 use Rattle.std.proofs.lemmas.Bool.Decides.{nat_tests}
-use Rattle.rare_base.specs.declared.answers.Reason.TheVariants.{BadForm, IllSorted, LiteralTooWide}
+use Rattle.rare_base.specs.declared.answers.Reason.TheVariants.{IllSorted, LiteralTooWide}
 use Rattle.rare_linear.specs.Linears.{LinearExpression, number}
-use Rattle.rare_sexpr.specs.Bytes.{is_digit}
-use Rattle.rare_sexpr.specs.Grammar.{Are}
 use Rattle.rare_sexpr.specs.Written.{is_simple}
 use Rattle.rare_sexpr.specs.declared.tree.AtomKind.{AtomKind}
 use Rattle.rare_sexpr.specs.declared.tree.AtomKind.TheVariants as atom
 use Rattle.rare_sexpr.specs.declared.tree.Kind.TheVariants as kind
 use Rattle.rare_sexpr.specs.declared.tree.Sexpr.{Sexpr}
-use Rattle.rare_sexpr.specs.Tree.{kind_of, text_of, items_of}
+use Rattle.rare_sexpr.specs.Tree.{kind_of, items_of}
 use Rattle.rare_sexpr.proofs.Trees.{go_out}
 use Rattle.rare_sort.specs.Trees.{node}
 use Rattle.rare_sort.specs.declared.declarations.Declarations.{Declarations}
@@ -27,17 +25,18 @@ use Rattle.rare_term.specs.declared.terms.TermError.{TermError}
 use Rattle.rare_scope.specs.Names.{Held, Names, found, names_of, symbol_names}
 use Rattle.rare_scope.specs.Numbers.{LARGEST_SMALL, LARGEST_WIDE, small_number, wide_number}
 use Rattle.rare_scope.specs.Printing.{name_text}
-use Rattle.rare_scope.specs.Reading.{go_on, is_word, is_symbol_kind, is_list_kind, is_numeral_kind, refused}
+use Rattle.rare_scope.specs.Reading.{go_on, is_word, is_list_kind, refused}
 use Rattle.rare_scope.specs.Reserved.{is_theory_word}
 use Rattle.rare_operators.specs.Applications.{application_at, application_unless}
 use Rattle.rare_operators.specs.AtomText.{constant_unless, word_term, named_term, atom_by, atom_at}
-use Rattle.rare_operators.specs.LiteralText.{numeral_term, literal_unless, literal_at, bits_of_value, bits_literal, are_digits, digits_behind, width_numeral, numeral_at, decimal_literal}
+use Rattle.rare_operators.specs.LiteralText.{numeral_term, literal_unless, literal_at, bits_of_value, bits_literal, numeral_at, decimal_literal}
 use Rattle.rare_operators.specs.OperatorWords.{operator_of_word}
 use Rattle.rare_operators.specs.declared.words.WordUse.TheVariants.{Constant}
 use Rattle.rare_term_text.specs.TermText.{Roles, list_term, term_by, roles, roles_at, term_at}
 use Rattle.rare_reread.specs.ReadsAs.{ReadsAs}
 use Rattle.rare_reread.specs.Readable.{IsReadable}
-use Rattle.rare_reread.proofs.Atoms.{IsAtom, kind_is, text_is, word_reads, symbol_reads, numeral_reads, decimal_digits, decimal_small, decimal_wide}
+use Rattle.rare_reread.proofs.Atoms.{IsAtom, kind_is, text_is, word_reads, symbol_reads, numeral_reads, decimal_small, decimal_wide}
+use Rattle.rare_reread.proofs.Digits.{digits_read, width_read}
 use Rattle.rare_reread.proofs.Finding.{symbol_symbol}
 use Rattle.rare_reread.proofs.Heads.{if_no, if_yes, word_unknown, symbol_known}
 use Rattle.rare_reread.proofs.Linears.{so_reads}
@@ -101,23 +100,6 @@ module _ (held : Held) (r : IsReadable held) (d : Declarations) (ts : List Tree)
 
   pub list_by : (e : Sexpr) (h : Sexpr) (xs : List Sexpr) → kind_of e ≡ kind.List → items_of e ≡ h ∷ xs → term_at d (names_of ts held) e ≡ list_term d (names_of ts held) e (map pair (h ∷ xs))
   list_by e h xs list items = term_out e ∙ ap (λ k. term_by d (names_of ts held) e (is_list_kind k) (map pair (items_of e))) list ∙ ap (λ ys. list_term d (names_of ts held) e (map pair ys)) items
-
-  are_number : (ds : List ℕ) → Are is_digit ds → are_digits ds ≡ true
-  are_number [] a = absurd (let lt = a.some in omega arith)
-  are_number (b ∷ bs) a = a.each
-
-  digits_read : (x : Sexpr) (v : ℕ) → v ≤ LARGEST_WIDE → IsAtom atom.Symbol (codes "bv" ++ decimal v) x → digits_behind x ≡ Ok (decimal v)
-  digits_read x v le a =
-      let text : List ℕ = codes "bv" ++ decimal v in
-      let digits : are_digits (decimal v) ≡ true = are_number (decimal v) (decimal_digits v (omega arith)) in
-      ap (λ k. if is_symbol_kind k && (bytes_eq (take 2 (text_of x)) (codes "bv") && are_digits (drop 2 (text_of x))) then Ok (drop 2 (text_of x)) else refused x BadForm) (kind_is atom.Symbol text x a)
-      ∙ ap (λ (t : List ℕ). if bytes_eq (take 2 t) (codes "bv") && are_digits (drop 2 t) then Ok (drop 2 t) else refused x BadForm) (text_is atom.Symbol text x a)
-      ∙ ap (λ b. if b then Ok (decimal v) else refused x BadForm) digits
-
-  width_read : (x : Sexpr) (k : ℕ) → k ≤ LARGEST_SMALL → IsAtom atom.Numeral (decimal k) x → numeral_at x ≡ Ok k
-  width_read x k le a =
-      ap (λ q. if is_numeral_kind q then width_numeral x (small_number (text_of x)) else refused x BadForm) (kind_is atom.Numeral (decimal k) x a)
-      ∙ ap (λ t. width_numeral x (small_number t)) (text_is atom.Numeral (decimal k) x a) ∙ ap (width_numeral x) (decimal_small k le)
 
   value_fits : (e : Sexpr) (v k : ℕ) → 0 < k → v < 2 ^ k → Fits (head.Bits v) (number (pos k) ∷ []) [] → bits_literal d e (Some v) k ≡ Ok (node (head.Bits v) (number (pos k) ∷ []) [])
   value_fits e v k some lt f =

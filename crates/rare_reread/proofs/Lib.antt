@@ -1,5 +1,6 @@
 pub mod Joining
 pub mod Atoms
+pub mod Digits
 pub mod Finding
 pub mod Linears
 pub mod Sums

@@ -1,5 +1,5 @@
 -- Numbers, parts and sums, read.
-use Rattle.std.proofs.Common.{◌≡◌, ◌≢◌, ℕ, zero, suc, ◌+◌, ◌-◌, ◌<◌, ◌≤◌, Bool, true, false, List, [], ◌∷◌, ◌++◌, map, drop, length, Some, None, Ok, refl, sym, ap, ◌∙◌, subst, arith, FitsSigned, if◌then◌else◌}
+use Rattle.std.proofs.Common.{◌≡◌, ◌≢◌, ℕ, zero, suc, ◌+◌, ◌-◌, ◌<◌, ◌≤◌, Bool, true, false, List, [], ◌∷◌, ◌++◌, map, drop, length, bytes_eq, Some, None, Ok, refl, sym, ap, ◌∙◌, subst, arith, FitsSigned, if◌then◌else◌}
 use Rattle.std.specs.Prelude.{ℤ, pos, negsuc, ◌*ℤ◌, ◌&&◌, codes, is_some, nat_eq}
 use Rattle.std.specs.Int.{w128}
 use Rattle.std.specs.Fmt.{decimal, digits}
@@ -19,7 +19,7 @@ use Rattle.rare_scope.specs.declared.sign.Sign.{Sign}
 use Rattle.rare_scope.specs.declared.sign.Sign.TheVariants as sign
 use Rattle.rare_scope.specs.Entries.{entry}
 use Rattle.rare_scope.specs.Numbers.{LARGEST_SMALL, small_number}
-use Rattle.rare_scope.specs.Reading.{refused, go_on, is_symbol_kind, is_list_kind}
+use Rattle.rare_scope.specs.Reading.{refused, go_on, is_symbol_kind, is_list_kind, is_word}
 use Rattle.rare_scope.specs.LinearText.{begins_size, WidthNames, signs, may_have, form_by, form_of, numeral, width_named, fitting, joined, folded, from_first, operands, linear_by, linear_at}
 use Rattle.rare_scope.specs.Printing.{negation_text, number_text}
 use Rattle.rare_scope.proofs.LinearSteps.{atom_read, list_read, pair}
@@ -47,7 +47,7 @@ so_runs n m bytes text Are Are' le same f r = subst (λ (t : List ℕ). RunsAs m
 pub fits : (e : Sexpr) (l : LinearExpression) → IsWithin l → fitting e l ≡ Ok l
 fits e l h = ap (λ b. if b then Ok l else refused e TermLimit) ((is_within-Decides l).1 h)
 
-module _ (w : WidthNames) (plain : w.size ≡ None) where
+module _ (w : WidthNames) where
   abbrev pub Gives : LinearExpression → Sexpr → Type 0
   Gives l e = linear_at w e ≡ Ok l
 
@@ -83,10 +83,18 @@ module _ (w : WidthNames) (plain : w.size ≡ None) where
       ap (form_by e h (length xs)) (ap (λ k. if is_symbol_kind k then entry signs (text_of h) else None) (kind_is atom.Symbol word h a) ∙ ap (entry signs) (text_is atom.Symbol word h a) ∙ is)
       ∙ ap (λ b. if b then Ok s else refused e BadForm) may
 
+  never : (a b : Bool) → b ≡ false → (a && b) ≡ false
+  never true b is = is
+  never false b is = refl
+
+  begins_other : (word : List ℕ) (h : Sexpr) → bytes_eq word (codes "bvsize") ≡ false → IsAtom atom.Symbol word h → is_word (codes "bvsize") h ≡ false
+  begins_other word h other a =
+      ap (λ k. is_symbol_kind k && bytes_eq (text_of h) (codes "bvsize")) (kind_is atom.Symbol word h a) ∙ ap (λ t. bytes_eq t (codes "bvsize")) (text_is atom.Symbol word h a) ∙ other
+
   -- a list that begins with a sign gives what its operands give
-  pub list_gives : (word : List ℕ) (s : Sign) (l : LinearExpression) (ls : List LinearExpression) (sum : LinearExpression) (e : Sexpr) → entry signs word ≡ Some s → may_have s (length ls) ≡ true →
-      ((x : Sexpr) (xs : List Sexpr) → GiveEach ls xs → from_first e s l (map (pair w) xs) ≡ Ok sum) → IsListOf (IsAtom atom.Symbol word) (GiveEach (l ∷ ls)) e → Gives sum e
-  list_gives word s l ls sum e is may given i = go i.items i.are i.list
+  pub list_gives : (word : List ℕ) (s : Sign) (l : LinearExpression) (ls : List LinearExpression) (sum : LinearExpression) (e : Sexpr) → entry signs word ≡ Some s → bytes_eq word (codes "bvsize") ≡ false →
+      may_have s (length ls) ≡ true → ((x : Sexpr) (xs : List Sexpr) → GiveEach ls xs → from_first e s l (map (pair w) xs) ≡ Ok sum) → IsListOf (IsAtom atom.Symbol word) (GiveEach (l ∷ ls)) e → Gives sum e
+  list_gives word s l ls sum e is other may given i = go i.items i.are i.list
     where
       count : (ls : List LinearExpression) (xs : List Sexpr) → GiveEach ls xs → length ls ≡ length xs
       count [] [] g = refl
@@ -98,7 +106,7 @@ module _ (w : WidthNames) (plain : w.size ≡ None) where
       go [] g list = absurd g
       go (x ∷ xs) g list =
           let items : items_of e ≡ i.first ∷ x ∷ xs = ap items_of list ∙ list_items i.place (i.first ∷ x ∷ xs) in
-          list_read w e (ap (λ size. is_some size && begins_size (items_of e)) plain) (ap is_list_kind (ap kind_of list ∙ list_kind i.place (i.first ∷ x ∷ xs)))
+          list_read w e (never (is_some w.size) (begins_size (items_of e)) (ap begins_size items ∙ begins_other word i.first other i.is)) (ap is_list_kind (ap kind_of list ∙ list_kind i.place (i.first ∷ x ∷ xs)))
           ∙ ap (λ ys. go_on (form_of e ys) (λ s. operands e s (map (pair w) (drop 1 ys)))) items
           ∙ ap (λ r. go_on r (λ s. operands e s (map (pair w) (x ∷ xs)))) (form e i.first x xs word s i.is is (ap (may_have s) (sym (count ls xs g.1)) ∙ may))
           ∙ ap (λ r. go_on r (λ l. from_first e s l (map (pair w) xs))) g.0
@@ -120,12 +128,12 @@ module _ (w : WidthNames) (plain : w.size ≡ None) where
       so_runs n n (32 ∷ (bytes ++ more)) (32 ∷ (bytes ++ more)) (Begins (Gives l) (GiveEach ls)) (GiveEach (l ∷ ls)) (omega arith) refl (one_more l ls) (more_runs n bytes more (Gives l) (GiveEach ls) r s)
 
   -- a list of a sign and operands
-  pub sign_reads : (n : ℕ) (word text : List ℕ) (s : Sign) (l : LinearExpression) (ls : List LinearExpression) (sum : LinearExpression) → is_simple word ≡ true → entry signs word ≡ Some s → may_have s (length ls) ≡ true →
-      ((e : Sexpr) (xs : List Sexpr) → GiveEach ls xs → from_first e s l (map (pair w) xs) ≡ Ok sum) → RunsAs n text (GiveEach (l ∷ ls)) → ReadsAs (suc n) (40 ∷ (word ++ (text ++ 41 ∷ []))) (Gives sum)
-  sign_reads n word text s l ls sum simple is may given r =
+  pub sign_reads : (n : ℕ) (word text : List ℕ) (s : Sign) (l : LinearExpression) (ls : List LinearExpression) (sum : LinearExpression) → is_simple word ≡ true → entry signs word ≡ Some s →
+      bytes_eq word (codes "bvsize") ≡ false → may_have s (length ls) ≡ true → ((e : Sexpr) (xs : List Sexpr) → GiveEach ls xs → from_first e s l (map (pair w) xs) ≡ Ok sum) → RunsAs n text (GiveEach (l ∷ ls)) → ReadsAs (suc n) (40 ∷ (word ++ (text ++ 41 ∷ []))) (Gives sum)
+  sign_reads n word text s l ls sum simple is other may given r =
       let all : List ℕ = 40 ∷ (word ++ (text ++ 41 ∷ [])) in
       so_reads (suc n) (suc n) all all (IsListOf (IsAtom atom.Symbol word) (GiveEach (l ∷ ls))) (Gives sum) (omega arith) refl
-      (λ e i. list_gives word s l ls sum e is may (λ x xs g. given e xs g) i)
+      (λ e i. list_gives word s l ls sum e is other may (λ x xs g. given e xs g) i)
       (list_reads n word text (IsAtom atom.Symbol word) (GiveEach (l ∷ ls)) (word_reads n word simple) r)
 
   natural_reads : (k n : ℕ) → n ≤ LARGEST_SMALL → ReadsAs k (decimal n) (Gives (number (pos n)))
@@ -135,7 +143,7 @@ module _ (w : WidthNames) (plain : w.size ≡ None) where
   negation_reads n lt =
       so_reads 1 1 (40 ∷ 45 ∷ 32 ∷ ((decimal (n + 1) ++ []) ++ 41 ∷ [])) (negation_text (n + 1)) (Gives (number (negsuc n))) (Gives (number (negsuc n))) (omega arith)
       (ap (λ ds. 40 ∷ 45 ∷ 32 ∷ (ds ++ 41 ∷ [])) (append-nil (decimal (n + 1)))) (λ e h. h)
-      (sign_reads 0 (codes "-") (32 ∷ (decimal (n + 1) ++ [])) sign.Minus (number (pos (n + 1))) [] (number (negsuc n)) refl refl refl only
+      (sign_reads 0 (codes "-") (32 ∷ (decimal (n + 1) ++ [])) sign.Minus (number (pos (n + 1))) [] (number (negsuc n)) refl refl refl refl only
       (more_gives 0 (decimal (n + 1)) [] (number (pos (n + 1))) [] (natural_reads 0 (n + 1) (omega arith)) (none_gives 0)))
     where
       only : (e : Sexpr) (xs : List Sexpr) → GiveEach [] xs → from_first e sign.Minus (number (pos (n + 1))) (map (pair w) xs) ≡ Ok (number (negsuc n))
@@ -157,7 +165,7 @@ module _ (w : WidthNames) (plain : w.size ≡ None) where
   lowest_reads =
       let one : ReadsAs 1 (negation_text LARGEST_SMALL) (Gives (number (negsuc (LARGEST_SMALL - 1)))) = negation_reads (LARGEST_SMALL - 1) (omega arith) in
       so_reads 2 2 (40 ∷ 45 ∷ ((32 ∷ (negation_text LARGEST_SMALL ++ (32 ∷ (decimal 1 ++ [])))) ++ 41 ∷ [])) (codes "(- (- 170141183460469231731687303715884105727) 1)") (Gives (number (negsuc LARGEST_SMALL))) (Gives (number (negsuc LARGEST_SMALL))) (omega arith) refl (λ e h. h)
-      (sign_reads 1 (codes "-") (32 ∷ (negation_text LARGEST_SMALL ++ (32 ∷ (decimal 1 ++ [])))) sign.Minus (number (negsuc (LARGEST_SMALL - 1))) (number (pos 1) ∷ []) (number (negsuc LARGEST_SMALL)) refl refl refl
+      (sign_reads 1 (codes "-") (32 ∷ (negation_text LARGEST_SMALL ++ (32 ∷ (decimal 1 ++ [])))) sign.Minus (number (negsuc (LARGEST_SMALL - 1))) (number (pos 1) ∷ []) (number (negsuc LARGEST_SMALL)) refl refl refl refl
       (two_gives sign.Minus (number (negsuc (LARGEST_SMALL - 1))) (number (pos 1)) (number (negsuc LARGEST_SMALL)) (λ e. fits e (number (negsuc LARGEST_SMALL)) (number_within (negsuc LARGEST_SMALL) (record { sfits = omega arith }))))
       (more_gives 1 (negation_text LARGEST_SMALL) (32 ∷ (decimal 1 ++ [])) (number (negsuc (LARGEST_SMALL - 1))) (number (pos 1) ∷ []) one
       (more_gives 1 (decimal 1) [] (number (pos 1)) [] (natural_reads 1 1 (omega arith)) (none_gives 1))))

@@ -1,7 +1,7 @@
 -- Literals of bit vectors, and the names of shared terms, read.
 use Rattle.std.proofs.Common.{◌≡◌, ℕ, ◌<◌, ◌≤◌, ◌^◌, ◌%◌, ◌≤ℤ◌, T, Bool, true, false, ◌&&◌, ◌||◌, List, [], ◌∷◌, ◌++◌, length, Some, All, refl, sym, ap, ◌∙◌, subst, arith}
 use Rattle.std.specs.Prelude.{codes, flat_map, ℤ, pos, negsuc, ◌+ℤ◌, ◌*ℤ◌, int_le, FitsSigned}
-use Rattle.std.specs.List.{list_all, list_any}
+use Rattle.std.specs.List.{list_any}
 use Rattle.std.specs.Fmt.{decimal}
 use Rattle.std.specs.Option.{is_none}
 use Rattle.std.specs.Int.{w128}
@@ -12,7 +12,6 @@ use Rattle.std.proofs.lemmas.Nat.{pow_pos}
 use Rattle.rare_linear.specs.Linears.{LinearExpression, NamesBelow, number, linear}
 use Rattle.rare_linear.specs.Entailment.{minus}
 use Rattle.rare_linear.specs.EntailmentTest.{is_within, is_entailed, is_plainly_met}
-use Rattle.rare_sexpr.specs.Bytes.{is_digit, is_symbol_byte, is_in_range, is_sign, is_mark}
 use Rattle.rare_sexpr.specs.Written.{is_simple}
 use Rattle.rare_sexpr.specs.declared.tree.AtomKind.TheVariants as atom
 use Rattle.rare_sexpr.specs.declared.tree.Sexpr.{Sexpr}
@@ -38,7 +37,8 @@ use Rattle.rare_term_text.specs.TermText.{begins_literal}
 use Rattle.rare_term_printing.specs.OperatorTexts.{list_text, index_texts, operator_text}
 use Rattle.rare_reread.specs.ReadsAs.{ReadsAs, IsListOf}
 use Rattle.rare_reread.specs.Readable.{IsReadable, IsKeptLinear}
-use Rattle.rare_reread.proofs.Atoms.{IsAtom, kind_is, text_is, list_kind, list_items, word_reads, numeral_reads, decimal_digits}
+use Rattle.rare_reread.proofs.Atoms.{IsAtom, kind_is, text_is, list_kind, list_items, word_reads, numeral_reads}
+use Rattle.rare_reread.proofs.Digits.{decimal_in_symbol, bv_simple}
 use Rattle.rare_reread.proofs.Heads.{if_no, if_yes, word_unknown, Indices, indices_run}
 use Rattle.rare_reread.proofs.Joining.{Begins, nothing_runs, more_runs, list_reads}
 use Rattle.rare_reread.proofs.Leaves.{Is, Fits, atom_out, list_by, literal_applies, given_is}
@@ -46,28 +46,6 @@ use Rattle.rare_reread.proofs.Linears.{so_reads}
 use Rattle.rare_reread.proofs.Lists.{IsEnd, has_three, word_is}
 
 -- ---- words that end in digits
-
-or_third : (a b c d e : Bool) → c ≡ true → (a || b || c || d || e) ≡ true
-or_third true b c d e is = refl
-or_third false true c d e is = refl
-or_third false false c d e is = ap (λ t. (false || false || t || d || e)) is
-
-digit_in_symbol : (b : ℕ) → is_digit b ≡ true → is_symbol_byte b ≡ true
-digit_in_symbol b is = or_third (is_in_range 97 122 b) (is_in_range 65 90 b) (is_digit b) (is_sign b) (is_mark b) is
-
-digits_in_symbol : (ds : List ℕ) → list_all is_digit ds ≡ true → list_all is_symbol_byte ds ≡ true
-digits_in_symbol [] all = refl
-digits_in_symbol (b ∷ bs) all = go (is_digit b) refl all (λ rest. digits_in_symbol bs rest)
-  where
-    go : (t : Bool) → is_digit b ≡ t → (t && list_all is_digit bs) ≡ true → (list_all is_digit bs ≡ true → list_all is_symbol_byte bs ≡ true) → (is_symbol_byte b && list_all is_symbol_byte bs) ≡ true
-    go true is rest ih = ap (λ t. t && list_all is_symbol_byte bs) (digit_in_symbol b is) ∙ ih rest
-    go false is rest ih = absurd cc
-
-decimal_in_symbol : (n : ℕ) → n < 10 ^ 64 → list_all is_symbol_byte (decimal n) ≡ true
-decimal_in_symbol n lt = digits_in_symbol (decimal n) (let a = decimal_digits n lt in a.each)
-
-bv_simple : (n : ℕ) → n < 10 ^ 64 → is_simple (codes "bv" ++ decimal n) ≡ true
-bv_simple n lt = decimal_in_symbol n lt
 
 pub name_simple : (n : ℕ) → n < 10 ^ 64 → is_simple (codes "@" ++ decimal n) ≡ true
 name_simple n lt = decimal_in_symbol n lt

@@ -1,0 +1,4 @@
+pub mod Growing
+pub mod Commands
+pub mod Texts
+pub mod Scopes
