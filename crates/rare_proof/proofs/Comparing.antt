@@ -1,13 +1,17 @@
 -- How terms by ids are told apart, and lists of equations.
 use Rattle.std.proofs.Common.{◌≡◌, ℕ, zero, suc, ◌+◌, ◌<◌, ◌↔◌, Bool, true, false, ◌&&◌, nat_eq, IsTrue, List, [], ◌∷◌, ◌++◌, length, take, drop, get_or, slice_get, Some, refl, ap, sym, ◌∙◌, arith, if◌then◌else◌}
+use Rattle.std.proofs.lemmas.Bool.{and_parts}
 use Rattle.std.proofs.lemmas.Bool.Decides.{same_from_decides, Decides-eqb}
 use Rattle.std.proofs.lemmas.Option.{none-some, same_Some, slice_get-get_or}
 use Rattle.std.proofs.lemmas.List.{length-take}
+use Rattle.rare_sort.specs.Trees.{node, head_of, indices_of, args_of}
 use Rattle.rare_sort.specs.declared.head.Head.{Head}
+use Rattle.rare_sort.specs.declared.head.Head.TheVariants.{True}
 use Rattle.rare_sort.specs.declared.tree.Tree.{Tree}
 use Rattle.rare_sort.specs.Ids.{tree_at, IsOneToOne}
 use Rattle.rare_sort.specs.Sameness.{tree_eq, head_eq, linear_eq, linears_eq}
 use Rattle.rare_linear.specs.Linears.{LinearExpression}
+use Rattle.rare_term.specs.inner.TreeLaws.{node_of, head_node, indices_node, args_node}
 use Rattle.rare_proof.specs.declared.sides.Sides.{Sides}
 use Rattle.rare_proof.specs.Steps.{equation, equation_eq, equations_eq, differing}
 use Rattle.rare_proof.specs.Sided.{equation_of, equations_of}
@@ -83,3 +87,35 @@ differing-more xs ys k d n lt =
     let same : length (take k xs) ≡ length (take k ys) = (let p = length-take k xs in let q = length-take k ys in omega arith) in
     (λ i. differing (take_one xs k (get_or xs k d) (slice_get-get_or xs k d lt) i) (take_one ys k (get_or ys k d) (slice_get-get_or ys k d lt') i))
     ∙ differing-push (take k xs) (take k ys) (get_or xs k d) (get_or ys k d) same
+
+-- ---- the term `true`
+
+none_left : {A : Type 0} (xs : List A) → length xs ≡ 0 → xs ≡ []
+none_left [] e = refl
+none_left (x ∷ xs) e = absurd (omega (arith, e))
+
+all_three : (a b c : Bool) → a ≡ true → b ≡ true → c ≡ true → (a && (b && c)) ≡ true
+all_three true true c p q r = r
+all_three true false c p q r = cc
+all_three false b c p q r = cc
+
+pub truth_same : (t : Tree) → (head_eq (head_of t) True && (nat_eq (length (indices_of t)) 0 && nat_eq (length (args_of t)) 0)) ≡ tree_eq (node True [] []) t
+truth_same t =
+    same_from_decides (head_eq (head_of t) True && (nat_eq (length (indices_of t)) 0 && nat_eq (length (args_of t)) 0)) (tree_eq (node True [] []) t) (to, from)
+    (tree_eq-Decides (node True [] []) t)
+  where
+    to : (head_eq (head_of t) True && (nat_eq (length (indices_of t)) 0 && nat_eq (length (args_of t)) 0)) ≡ true → node True [] [] ≡ t
+    to e =
+        let both = and_parts (head_eq (head_of t) True) _ e in
+        let counts = and_parts (nat_eq (length (indices_of t)) 0) (nat_eq (length (args_of t)) 0) both.1 in
+        let head = (head_eq-Decides (head_of t) True).0 both.0 in
+        let indices = none_left (indices_of t) ((Decides-eqb (length (indices_of t)) 0).0 counts.0) in
+        let args = none_left (args_of t) ((Decides-eqb (length (args_of t)) 0).0 counts.1) in
+        (λ i. node (sym head i) (sym indices i) (sym args i)) ∙ node_of t
+
+    from : node True [] [] ≡ t → (head_eq (head_of t) True && (nat_eq (length (indices_of t)) 0 && nat_eq (length (args_of t)) 0)) ≡ true
+    from e =
+        all_three (head_eq (head_of t) True) (nat_eq (length (indices_of t)) 0) (nat_eq (length (args_of t)) 0)
+        ((head_eq-Decides (head_of t) True).1 (ap head_of (sym e) ∙ head_node True [] []))
+        ((Decides-eqb (length (indices_of t)) 0).1 (ap (λ u. length (indices_of u)) (sym e) ∙ ap length (indices_node True [] [])))
+        ((Decides-eqb (length (args_of t)) 0).1 (ap (λ u. length (args_of u)) (sym e) ∙ ap length (args_node True [] [])))

@@ -1,6 +1,11 @@
 pub mod Listing
 pub mod Comparing
 pub mod Values
+pub mod Growing
 pub mod Premises
 pub mod Adding
+pub mod Judging
+pub mod Rewriting
+pub mod TestForms
+pub mod Instances
 pub mod Soundness

@@ -6,10 +6,11 @@ use Rattle.std.proofs.lemmas.Option.{none-some, same_Some}
 use Rattle.std.proofs.lemmas.List.Elements.{All-head, All-tail}
 use Rattle.rare_sort.specs.Sorting.{all_of}
 use Rattle.rare_sort.specs.declared.tree.Tree.{Tree}
+use Rattle.rare_term.specs.State.{State}
 use Rattle.rare_proof.specs.declared.step.Step.{Step}
 use Rattle.rare_proof.specs.Steps.{Equation, equations_at}
 use Rattle.rare_proof.specs.Sided.{equation_of}
-use Rattle.rare_proof.specs.Proofs.{HasIds, concluded_by}
+use Rattle.rare_proof.specs.Proofs.{IsStepOf, concluded_by}
 use Rattle.rare_proof.proofs.Listing.{split_at, take_one}
 
 module _ {A : Type 0} where
@@ -55,8 +56,8 @@ none_at ts [] k past = refl
 none_at ts (x ∷ steps) zero past = absurd (past (omega arith))
 none_at ts (x ∷ steps) (suc k) past = none_at ts steps k (λ lt. past (omega (arith, lt)))
 
--- the ids of a step at its place
-pub ids_of_step : (n : ℕ) (steps : List Step) (k : ℕ) (s : Step) → All (HasIds n) steps → slice_get steps k ≡ Some s → HasIds n s
-ids_of_step n [] k s h at = absurd (none-some s at)
-ids_of_step n (x ∷ steps) zero s h at = subst (HasIds n) (same_Some x s at) (All-head (HasIds n) x steps h)
-ids_of_step n (x ∷ steps) (suc k) s h at = ids_of_step n steps k s (All-tail (HasIds n) x steps h) at
+-- a step at its place
+pub step_at : (s : State) (steps : List Step) (k : ℕ) (x : Step) → All (IsStepOf s) steps → slice_get steps k ≡ Some x → IsStepOf s x
+step_at s [] k x h at = absurd (none-some x at)
+step_at s (y ∷ steps) zero x h at = subst (IsStepOf s) (same_Some y x at) (All-head (IsStepOf s) y steps h)
+step_at s (y ∷ steps) (suc k) x h at = step_at s steps k x (All-tail (IsStepOf s) y steps h) at

@@ -1,8 +1,8 @@
 -- What valid steps conclude is true.
-use Rattle.std.proofs.Common.{◌≡◌, ℕ, zero, suc, ◌+◌, ◌<◌, Bool, true, false, nat_eq, List, [], ◌∷◌, map, length, take, slice_get, Option, Some, None, is_some, refl, sym, ap, ◌∙◌, subst, if◌then◌else◌, arith}
+use Rattle.std.proofs.Common.{◌≡◌, ℕ, zero, suc, ◌+◌, ◌<◌, Bool, true, false, List, [], ◌∷◌, All, map, length, take, slice_get, Option, Some, None, is_some, refl, sym, ap, ◌∙◌, subst, if◌then◌else◌, arith}
 use Rattle.std.specs.Option.{option_map}
 use Rattle.std.proofs.lemmas.Bool.{and_parts, eqb-true}
-use Rattle.std.proofs.lemmas.Option.{none-some, same_Some}
+use Rattle.std.proofs.lemmas.Option.{none-some, same_Some, get_or_from_slice_get, slice_get_within}
 use Rattle.std.proofs.lemmas.List.Elements.{All-nil, All-cons, All-head, All-tail, All-push}
 use Rattle.rare_sort.specs.declared.declarations.Declarations.{Declarations}
 use Rattle.rare_sort.specs.declared.tree.Tree.{Tree}
@@ -19,20 +19,15 @@ use Rattle.rare_sort.proofs.SamenessLemmas.{tree_eq-Decides, head_eq-Decides, li
 use Rattle.rare_meaning.specs.Settings.{Item}
 use Rattle.rare_eval.specs.Evaluation.{evaluation}
 use Rattle.rare_eval.proofs.EvaluationLemmas.{one_value_means_same}
-use Rattle.rare_proof.specs.declared.step.StepRule.{StepRule}
-use Rattle.rare_proof.specs.declared.step.StepRule.TheVariants.{Refl, Cong, Trans, Evaluate}
-use Rattle.rare_proof.specs.declared.fault.StepFault.{StepFault}
-use Rattle.rare_proof.specs.declared.fault.StepFault.TheVariants.{PremiseCount, NotEqual, OtherHead, OtherPremise, NoValue, OtherValue}
-use Rattle.rare_proof.specs.Steps.{Equation, StatedStep, equation, equations_at, first_failing, equation_eq, equations_eq, differing, have_same_head, are_joined, have_values, have_same_value, conditions, rule_fault, step_fault}
-use Rattle.rare_proof.specs.Proofs.{IsProof, conclusions}
-use Rattle.rare_proof.specs.StepLaws.{IsTrueEquation, AreTrueEquations, ValidStepsAreTrue}
+use Rattle.rare_rule.specs.Books.{AreTyped, BookRule}
+use Rattle.rare_inst.specs.InstanceLaws.{InstancesMeanSame}
+use Rattle.rare_proof.specs.declared.fault.StepFault.TheVariants.{NoSuchStep, NotEqual, OtherHead, OtherPremise, NoValue, OtherValue}
+use Rattle.rare_proof.specs.Steps.{Equation, StatedRule, StatedStep, Refl, Cong, Trans, Evaluate, Rewrite, equation, equations_at, first_failing, equation_eq, equations_eq, differing, have_same_head, are_joined, have_values, have_same_value, conditions, rule_fault, step_fault}
+use Rattle.rare_proof.specs.Proofs.{HasArguments, IsProof, conclusions}
+use Rattle.rare_proof.specs.StepLaws.{IsTrueEquation, AreTrueEquations, RuleHolds, ValidStepsAreTrue}
+use Rattle.rare_proof.proofs.Instances.{all_met, need_met, true_rewrite}
 use Rattle.rare_proof.proofs.Listing.{take_one}
 use Rattle.rare_proof.proofs.Values.{same_answers}
-
--- a first condition that does not fail is met
-met : (b : Bool) (f : StepFault) (cs : List (Bool × StepFault)) → first_failing ((b, f) ∷ cs) ≡ None → (b ≡ true) × (first_failing cs ≡ None)
-met true f cs e = (refl, e)
-met false f cs e = cc
 
 same_tree : (t u : Tree) → tree_eq t u ≡ true → t ≡ u
 same_tree t u e = (tree_eq-Decides t u).0 e
@@ -43,6 +38,29 @@ same_equation p q e =
     let l : p.left ≡ q.left = same_tree p.left q.left both.0 in
     let r : p.right ≡ q.right = same_tree p.right q.right both.1 in
     λ i. equation (l i) (r i)
+
+map_at : (steps : List StatedStep) (k : ℕ) (s : StatedStep) → slice_get steps k ≡ Some s → slice_get (conclusions steps) k ≡ Some s.concluded
+map_at [] k s at = absurd (none-some s at)
+map_at (x ∷ ss) zero s at = ap (λ (y : StatedStep). Some y.concluded) (same_Some x s at)
+map_at (x ∷ ss) (suc k) s at = map_at ss k s at
+
+there : (steps : List StatedStep) (k : ℕ) → k < length steps → (s : StatedStep) × (slice_get steps k ≡ Some s)
+there [] k lt = absurd (omega (arith, lt))
+there (x ∷ ss) zero lt = (x, refl)
+there (x ∷ ss) (suc k) lt = there ss k (omega (arith, lt))
+
+each_at : {X : Type 0} (P : X → Type 0) (xs : List X) (k : ℕ) (x : X) → All P xs → slice_get xs k ≡ Some x → P x
+each_at P xs k x h at = subst P (get_or_from_slice_get xs k x x at) (h k x (slice_get_within xs k x at))
+
+conclusions_length : (steps : List StatedStep) → length (conclusions steps) ≡ length steps
+conclusions_length [] = refl
+conclusions_length (s ∷ ss) = ap suc (conclusions_length ss)
+
+taken : {X : Type 0} (xs : List X) (n : ℕ) → length xs ≡ n → take n xs ≡ xs
+taken [] zero e = refl
+taken [] (suc n) e = refl
+taken (x ∷ xs) zero e = absurd (omega (arith, e))
+taken (x ∷ xs) (suc n) e = ap (λ ys. x ∷ ys) (taken xs n (omega (arith, e)))
 
 module _ (c : FunctionClass) (declared : Declarations) where
   abbrev IsTrue : Equation → Type 0
@@ -129,70 +147,55 @@ module _ (c : FunctionClass) (declared : Declarations) where
       by None e h = let none : is_some (evaluation a) ≡ false = ap is_some e in cc
       by (Some i) e h = one_value_means_same c declared a b i e (same_answers (evaluation a) (evaluation b) same i e)
 
-  -- a rule whose conditions hold for true premises
-  pub true_by_rule : (rule : StepRule) (a b : Tree) (ps : List Equation) → AreTrue ps → first_failing (conditions rule a b ps) ≡ None → MeansSame c declared a b
-  true_by_rule Refl a b ps h e =
-      let count = met (nat_eq (length ps) 0) PremiseCount ((tree_eq a b, NotEqual) ∷ []) e in
-      let same = met (tree_eq a b) NotEqual [] count.1 in
-      let P : Tree → Type 0 = λ x. MeansSame c declared a x in
-      subst P (same_tree a b same.0) (kept.reflexive a)
-  true_by_rule Cong a b ps h e =
-      let pairs = differing (args_of a) (args_of b) in
-      let head = met (have_same_head a b) OtherHead ((nat_eq (length ps) (length pairs), PremiseCount) ∷ (equations_eq ps pairs, OtherPremise) ∷ []) e in
-      let count = met (nat_eq (length ps) (length pairs)) PremiseCount ((equations_eq ps pairs, OtherPremise) ∷ []) head.1 in
-      let premises = met (equations_eq ps pairs) OtherPremise [] count.1 in
-      true_cong a b head.0 (true_equations_eq ps pairs premises.0 h)
-  true_by_rule Trans a b ps h e =
-      let count = met (nat_eq (length ps) 2) PremiseCount ((are_joined ps a b, OtherPremise) ∷ []) e in
-      let joined = met (are_joined ps a b) OtherPremise [] count.1 in
-      true_joined ps a b h joined.0
-  true_by_rule Evaluate a b ps h e =
-      let count = met (nat_eq (length ps) 0) PremiseCount ((have_values a b, NoValue) ∷ (have_same_value a b, OtherValue) ∷ []) e in
-      let have = met (have_values a b) NoValue ((have_same_value a b, OtherValue) ∷ []) count.1 in
-      let same = met (have_same_value a b) OtherValue [] have.1 in
-      true_evaluation a b have.0 same.0
+  module _ (law : InstancesMeanSame) (book : List BookRule) (typed : AreTyped book) where
+    -- a rule whose conditions hold for true premises
+    true_by_rule : (rule : StatedRule) (a b : Tree) (ps : List Equation) → RuleHolds c book rule → HasArguments declared rule → AreTrue ps →
+        first_failing (conditions declared book rule a b ps) ≡ None → MeansSame c declared a b
+    true_by_rule Refl a b ps holds args h e =
+        let met = all_met (conditions declared book Refl a b ps) e in
+        let same = need_met (tree_eq a b) NotEqual met.1.0 in
+        let P : Tree → Type 0 = λ x. MeansSame c declared a x in
+        subst P (same_tree a b same) (kept.reflexive a)
+    true_by_rule Cong a b ps holds args h e =
+        let pairs = differing (args_of a) (args_of b) in
+        let met = all_met (conditions declared book Cong a b ps) e in
+        let head = need_met (have_same_head a b) OtherHead met.0 in
+        let premises = need_met (equations_eq ps pairs) OtherPremise met.1.1.0 in
+        true_cong a b head (true_equations_eq ps pairs premises h)
+    true_by_rule Trans a b ps holds args h e =
+        let met = all_met (conditions declared book Trans a b ps) e in
+        true_joined ps a b h (need_met (are_joined ps a b) OtherPremise met.1.0)
+    true_by_rule Evaluate a b ps holds args h e =
+        let met = all_met (conditions declared book Evaluate a b ps) e in
+        let have = need_met (have_values a b) NoValue met.1.0 in
+        true_evaluation a b have (need_met (have_same_value a b) OtherValue met.1.1.0)
+    true_by_rule (Rewrite k args) a b ps holds given h e = true_rewrite c declared law book typed k args a b ps holds given h e
 
-  true_step : (earlier : List Equation) (s : StatedStep) → AreTrue earlier → step_fault earlier s ≡ None → IsTrue s.concluded
-  true_step earlier s h e = by (equations_at earlier s.premises) refl e
-    where
-      by : (ps : Option (List Equation)) → equations_at earlier s.premises ≡ ps → rule_fault s.rule s.concluded ps ≡ None → IsTrue s.concluded
-      by None m e = absurd cc
-      by (Some ps) m e = true_by_rule s.rule s.concluded.left s.concluded.right ps (true_premises earlier s.premises ps h m) e
+    true_step : (earlier : List Equation) (s : StatedStep) → RuleHolds c book s.rule → HasArguments declared s.rule → AreTrue earlier →
+        step_fault declared book earlier s ≡ None → IsTrue s.concluded
+    true_step earlier s holds args h e = by (equations_at earlier s.premises) refl e
+      where
+        by : (ps : Option (List Equation)) → equations_at earlier s.premises ≡ ps → rule_fault declared book s.rule s.concluded ps ≡ None → IsTrue s.concluded
+        by None m e = absurd (none-some NoSuchStep (sym e))
+        by (Some ps) m e = true_by_rule s.rule s.concluded.left s.concluded.right ps holds args (true_premises earlier s.premises ps h m) e
 
-  map_at : (steps : List StatedStep) (k : ℕ) (s : StatedStep) → slice_get steps k ≡ Some s → slice_get (conclusions steps) k ≡ Some s.concluded
-  map_at [] k s at = absurd (none-some s at)
-  map_at (x ∷ ss) zero s at = ap (λ (y : StatedStep). Some y.concluded) (same_Some x s at)
-  map_at (x ∷ ss) (suc k) s at = map_at ss k s at
+    -- the first steps of a proof
+    true_front : (steps : List StatedStep) → All (λ s. RuleHolds c book s.rule) steps → IsProof declared book steps → (n : ℕ) → ¬ (length steps < n) →
+        AreTrue (take n (conclusions steps))
+    true_front steps hold p zero le = All-nil IsTrue
+    true_front steps hold p (suc n) le =
+        let s = there steps n (omega (arith, le)) in
+        let before = true_front steps hold p n (omega (arith, le)) in
+        let holds = each_at (λ (x : StatedStep). RuleHolds c book x.rule) steps n s.0 hold s.1 in
+        let args = each_at (λ (x : StatedStep). HasArguments declared x.rule) steps n s.0 p.arguments s.1 in
+        let one = true_step (take n (conclusions steps)) s.0 holds args before (p.valid n s.0 s.1) in
+        let next : suc n ≡ n + 1 = omega arith in
+        subst AreTrue (sym (ap (λ m. take m (conclusions steps)) next ∙ take_one (conclusions steps) n s.0.concluded (map_at steps n s.0 s.1)))
+        (All-push IsTrue (take n (conclusions steps)) s.0.concluded before one)
 
-  there : (steps : List StatedStep) (k : ℕ) → k < length steps → (s : StatedStep) × (slice_get steps k ≡ Some s)
-  there [] k lt = absurd (omega (arith, lt))
-  there (x ∷ ss) zero lt = (x, refl)
-  there (x ∷ ss) (suc k) lt = there ss k (omega (arith, lt))
+    true_proof : (steps : List StatedStep) → All (λ s. RuleHolds c book s.rule) steps → IsProof declared book steps → AreTrue (conclusions steps)
+    true_proof steps hold p =
+        subst AreTrue (taken (conclusions steps) (length steps) (conclusions_length steps)) (true_front steps hold p (length steps) (omega arith))
 
-  -- the first steps of a proof
-  true_front : (steps : List StatedStep) → IsProof steps → (n : ℕ) → ¬ (length steps < n) → AreTrue (take n (conclusions steps))
-  true_front steps p zero le = All-nil IsTrue
-  true_front steps p (suc n) le =
-      let s = there steps n (omega (arith, le)) in
-      let before = true_front steps p n (omega (arith, le)) in
-      let one = true_step (take n (conclusions steps)) s.0 before (p.valid n s.0 s.1) in
-      let next : suc n ≡ n + 1 = omega arith in
-      subst AreTrue (sym (ap (λ m. take m (conclusions steps)) next ∙ take_one (conclusions steps) n s.0.concluded (map_at steps n s.0 s.1)))
-      (All-push IsTrue (take n (conclusions steps)) s.0.concluded before one)
-
-  conclusions_length : (steps : List StatedStep) → length (conclusions steps) ≡ length steps
-  conclusions_length [] = refl
-  conclusions_length (s ∷ ss) = ap suc (conclusions_length ss)
-
-  taken : {X : Type 0} (xs : List X) (n : ℕ) → length xs ≡ n → take n xs ≡ xs
-  taken [] zero e = refl
-  taken [] (suc n) e = refl
-  taken (x ∷ xs) zero e = absurd (omega (arith, e))
-  taken (x ∷ xs) (suc n) e = ap (λ ys. x ∷ ys) (taken xs n (omega (arith, e)))
-
-  true_proof : (steps : List StatedStep) → IsProof steps → AreTrue (conclusions steps)
-  true_proof steps p =
-      subst AreTrue (taken (conclusions steps) (length steps) (conclusions_length steps)) (true_front steps p (length steps) (omega arith))
-
-pub valid_steps : (c : FunctionClass) (d : Declarations) → ValidStepsAreTrue c d
-valid_steps c d = record { step = true_step c d; proof = true_proof c d }
+    pub valid_steps : ValidStepsAreTrue c declared book
+    valid_steps = record { step = true_step; proof = true_proof }

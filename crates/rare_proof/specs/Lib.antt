@@ -3,5 +3,6 @@ pub mod Steps
 pub mod Words
 pub mod Sided
 pub mod Proofs
+pub mod RulesHold
 pub mod StepLaws
 pub mod inner

@@ -1,8 +1,9 @@
 //! Terms and equations compared by their ids.
-ghost use Rattle.std.specs.Prelude.{◌≡◌, ◌<◌, length};
+ghost use Rattle.std.specs.Prelude.{◌≡◌, ◌<◌, [], length};
 ghost use Rattle.rare_sort.specs.Ids.{tree_at};
 ghost use Rattle.rare_sort.specs.Sameness.{tree_eq, head_eq, linear_eq, linears_eq};
-ghost use Rattle.rare_sort.specs.Trees.{indices_of};
+ghost use Rattle.rare_sort.specs.Trees.{indices_of, node};
+ghost use Rattle.rare_sort.specs.declared.head.Head.TheVariants.{True};
 ghost use Rattle.rare_proof.specs.Sided.{AreSides, AllAreSides, equation_of, equations_of};
 ghost use Rattle.rare_proof.specs.Steps.{equation_eq, equations_eq, have_same_head};
 
@@ -26,16 +27,18 @@ fn same_index(a: &Linear, b: &Linear) -> bool
 pub(crate) fn same_term<T: Terms>(terms: &T, a: TermId, b: TermId) -> bool
     requires a { a.0 < length (T.state terms.now).trees }
     requires b { b.0 < length (T.state terms.now).trees }
-    ensures { result ≡ tree_eq (tree_at (T.state terms.now).trees a.0) (tree_at (T.state terms.now).trees b.0) }
+    ensures { result ≡ tree_eq (tree_at (T.state terms.now).trees a.0)
+        (tree_at (T.state terms.now).trees b.0) }
 {
     a.0 == b.0
 }
 
 /// Whether two equations are one.
-pub(crate) fn same_equation<T: Terms>(terms: &T, a: Sides, b: Sides) -> bool
+pub fn same_equation<T: Terms>(terms: &T, a: Sides, b: Sides) -> bool
     requires a { AreSides (length (T.state terms.now).trees) a }
     requires b { AreSides (length (T.state terms.now).trees) b }
-    ensures { result ≡ equation_eq (equation_of (T.state terms.now).trees a) (equation_of (T.state terms.now).trees b) }
+    ensures { result ≡ equation_eq (equation_of (T.state terms.now).trees a)
+        (equation_of (T.state terms.now).trees b) }
 {
     same_term(terms, a.left, b.left) && same_term(terms, a.right, b.right)
 }
@@ -44,7 +47,8 @@ pub(crate) fn same_equation<T: Terms>(terms: &T, a: Sides, b: Sides) -> bool
 pub(crate) fn same_equations<T: Terms>(terms: &T, a: &[Sides], b: &[Sides]) -> bool
     requires a { AllAreSides (length (T.state terms.now).trees) a.now }
     requires b { AllAreSides (length (T.state terms.now).trees) b.now }
-    ensures { result ≡ equations_eq (equations_of (T.state terms.now).trees a.now) (equations_of (T.state terms.now).trees b.now) }
+    ensures { result ≡ equations_eq (equations_of (T.state terms.now).trees a.now)
+        (equations_of (T.state terms.now).trees b.now) }
 {
     if a.len() != b.len() {
         return false;
@@ -60,7 +64,8 @@ pub(crate) fn same_equations<T: Terms>(terms: &T, a: &[Sides], b: &[Sides]) -> b
 // Whether the operators of two terms have the same indices.
 fn same_indices<T: Terms>(terms: &T, sides: Sides) -> bool
     requires { AreSides (length (T.state terms.now).trees) sides }
-    ensures { result ≡ linears_eq (indices_of (tree_at (T.state terms.now).trees sides.left.0)) (indices_of (tree_at (T.state terms.now).trees sides.right.0)) }
+    ensures { result ≡ linears_eq (indices_of (tree_at (T.state terms.now).trees sides.left.0))
+        (indices_of (tree_at (T.state terms.now).trees sides.right.0)) }
 {
     let count = terms.index_count(sides.left);
     if count != terms.index_count(sides.right) {
@@ -77,9 +82,18 @@ fn same_indices<T: Terms>(terms: &T, sides: Sides) -> bool
 /// Whether two terms have one operator with the same indices, and as many arguments.
 pub(crate) fn same_shape<T: Terms>(terms: &T, sides: Sides) -> bool
     requires { AreSides (length (T.state terms.now).trees) sides }
-    ensures { result ≡ have_same_head (tree_at (T.state terms.now).trees sides.left.0) (tree_at (T.state terms.now).trees sides.right.0) }
+    ensures { result ≡ have_same_head (tree_at (T.state terms.now).trees sides.left.0)
+        (tree_at (T.state terms.now).trees sides.right.0) }
 {
     same_head(terms.head(sides.left), terms.head(sides.right))
         && same_indices(terms, sides)
         && terms.arg_count(sides.left) == terms.arg_count(sides.right)
+}
+
+/// Whether a term is `true`.
+pub(crate) fn is_truth<T: Terms>(terms: &T, id: TermId) -> bool
+    requires { id.0 < length (T.state terms.now).trees }
+    ensures { result ≡ tree_eq (node True [] []) (tree_at (T.state terms.now).trees id.0) }
+{
+    same_head(terms.head(id), Head::True) && terms.index_count(id) == 0 && terms.arg_count(id) == 0
 }

@@ -9,10 +9,10 @@ mod rules;
 mod sides;
 mod step;
 
+pub use compared::same_equation;
 pub use fault::{AddError, StepFault};
 pub use laws::valid_steps_are_true;
 pub use proof::Proof;
-pub use rules::fault_by_rule;
 pub use sides::{Sides, SidesList};
 pub use step::{Step, StepRule, Steps};
 

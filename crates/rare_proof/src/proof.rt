@@ -4,15 +4,17 @@ ghost use Rattle.std.specs.List.{list_any};
 ghost use Rattle.std.specs.Option.{option_map};
 ghost use Rattle.rare_sort.specs.Ids.{tree_at};
 ghost use Rattle.rare_sort.specs.declared.tree.Tree.{Tree};
-ghost use Rattle.rare_proof.specs.Proofs.{HasIds, IsAddedAt, IsProofOver, Judges, concluded_by, is_equation, stated_step};
+ghost use Rattle.rare_term.specs.State.{Grows, State};
+ghost use Rattle.rare_proof.specs.Proofs.{HasArguments, IsAddedAt, IsProofOver, IsStepOf, Judges, concluded_by, is_equation, stated_rule, stated_step};
 ghost use Rattle.rare_proof.specs.Sided.{AllAreSides, equations_of};
 ghost use Rattle.rare_proof.specs.Steps.{equation, equations_at, step_fault};
 
 use crate::fault::{AddError, StepFault};
-use crate::rules::fault_by_rule;
+use crate::rules::test_by_rule;
 use crate::sides::{Sides, SidesList};
 use crate::step::{Step, Steps};
 use indexmap::IndexSet;
+use rare_rule::Book;
 use rare_term::{TermId, Terms};
 use std::alloc::{AllocError, Global};
 use std::marker::Model;
@@ -29,10 +31,14 @@ pub struct Proof {
 
 impl Model for Proof {
     ghost use Rattle.std.specs.Prelude.{List};
+    ghost use Rattle.std.specs.Coded.{codes};
+    ghost use Rattle.rare_sort.specs.contracts.sort.Sort as sort;
     ghost use Rattle.rare_proof.specs.declared.step.Step.{Step};
     ghost use Rattle.rare_proof.specs.inner.Numbered.{AreNumbered};
 
     ghost Value = { List Step };
+
+    ghost coded = { Prim.hlevel (codes, sort.the_row.coded) };
 
     ghost view = { λ p. p.steps };
 
@@ -77,8 +83,10 @@ impl Proof {
     // The equations at these places, or none where one is past the end.
     fn premises_at(&self, places: &[usize]) -> Result<Option<SidesList>, AllocError>
         ensures found { IfOk result (λ found. (ts : List Tree) →
-            option_map (equations_of ts) found ≡ equations_at (concluded_by ts self.now) places.now) }
-        ensures ids { IfOk result (λ found. (n : ℕ) → All (HasIds n) self.now → IfSome found (AllAreSides n)) }
+            option_map (equations_of ts) found ≡ equations_at (concluded_by ts self.now)
+            places.now) }
+        ensures ids { IfOk result (λ found. (s : State) → All (IsStepOf s) self.now →
+            IfSome found (AllAreSides (length s.trees))) }
     {
         let mut premises = SidesList::new(self.alloc);
         for place in places {
@@ -94,25 +102,26 @@ impl Proof {
         Ok(Some(premises))
     }
 
-    /// The first condition of a step that fails behind the steps of the proof, if one does. An error is
-    /// want of memory.
-    pub fn fault_of<T: Terms>(
-        &self,
-        terms: &T,
-        step: &Step,
-    ) -> Result<Option<StepFault>, AllocError>
-        requires step { HasIds (length (T.state terms.now).trees) step.now }
-        requires ids { All (HasIds (length (T.state terms.now).trees)) self.now }
-        ensures { IfOk result (λ fault. fault ≡ step_fault
-            (concluded_by (T.state terms.now).trees self.now) (stated_step (T.state terms.now).trees step.now)) }
+    // Whether a step is valid behind the steps of the proof: the first condition that fails is an error.
+    fn test<T: Terms>(&self, terms: &mut T, book: &Book, step: &Step) -> Result<(), AddError>
+        requires step { IsStepOf (T.state terms.old) step.now }
+        requires steps { All (IsStepOf (T.state terms.old)) self.now }
+        ensures judged { Judges (step_fault (T.state terms.old).declared book.now
+            (concluded_by (T.state terms.old).trees self.now)
+            (stated_step (T.state terms.old).trees step.now)) result }
+        ensures arguments { OnOk result (HasArguments (T.state terms.old).declared
+            (stated_rule (T.state terms.old).trees step.now.by)) }
+        ensures grows { Grows (T.state terms.old) (T.state terms.new) }
     {
         let sides = Sides {
             left: step.left,
             right: step.right,
         };
         match self.premises_at(step.premises.items())? {
-            Some(premises) => fault_by_rule(self.alloc, terms, step.by, sides, premises.items()),
-            None => Ok(Some(StepFault::NoSuchStep)),
+            Some(premises) => {
+                test_by_rule(self.alloc, terms, book, &step.by, sides, premises.items())
+            }
+            None => Err(AddError::Invalid(StepFault::NoSuchStep)),
         }
     }
 
@@ -132,34 +141,36 @@ impl Proof {
     }
 
     /// Adds a step of terms of this proof, and gives the place of its equation: an earlier one where the
-    /// equation is there, else that of the step, behind the others.
+    /// equation is there, else that of the step, behind the others. The terms may grow.
     ///
     /// `Invalid` has the first of the step's conditions that fails: that its premises are places of the
     /// proof, then those of its rule. After an error the proof stays.
-    pub fn add_step<T: Terms>(&mut self, terms: &T, step: Step) -> Result<usize, AddError>
-        requires step { HasIds (length (T.state terms.now).trees) step }
-        requires proof { IsProofOver (T.state terms.now).trees self.old }
-        ensures judged { Judges (step_fault (concluded_by (T.state terms.now).trees self.old)
-            (stated_step (T.state terms.now).trees step)) result }
+    pub fn add_step<T: Terms>(
+        &mut self,
+        terms: &mut T,
+        book: &Book,
+        step: Step,
+    ) -> Result<usize, AddError>
+        requires step { IsStepOf (T.state terms.old) step }
+        requires proof { IsProofOver (T.state terms.old) book.now self.old }
+        ensures judged { Judges (step_fault (T.state terms.old).declared book.now
+            (concluded_by (T.state terms.old).trees self.old)
+            (stated_step (T.state terms.old).trees step)) result }
         ensures added { IfOk result (IsAddedAt self.old step self.new) }
-        ensures place { IfOk result (λ k. slice_get (concluded_by (T.state terms.now).trees self.new) k
-            ≡ Some (equation (tree_at (T.state terms.now).trees step.left.0) (tree_at (T.state terms.now).trees step.right.0))) }
+        ensures place { IfOk result
+            (λ k. slice_get (concluded_by (T.state terms.new).trees self.new) k
+            ≡ Some (equation (tree_at (T.state terms.old).trees step.left.0)
+            (tree_at (T.state terms.old).trees step.right.0))) }
         ensures err { OnErr result (self.new ≡ self.old) }
-        ensures proof { IsProofOver (T.state terms.now).trees self.new }
+        ensures grows { Grows (T.state terms.old) (T.state terms.new) }
+        ensures proof { IsProofOver (T.state terms.new) book.now self.new }
     {
-        let Ok(fault) = self.fault_of(terms, &step) else {
-            return Err(AddError::Memory);
-        };
-        if let Some(fault) = fault {
-            return Err(AddError::Invalid(fault));
-        }
+        self.test(terms, book, &step)?;
         if let Some(k) = self.find(step.left, step.right) {
             return Ok(k);
         }
         let k = self.steps.len();
-        match self.push(step) {
-            Ok(()) => Ok(k),
-            Err(_) => Err(AddError::Memory),
-        }
+        self.push(step)?;
+        Ok(k)
     }
 }

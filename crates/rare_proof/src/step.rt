@@ -1,10 +1,11 @@
 //! Steps of a proof, and their rules.
 use rare_base::Numbers;
+use rare_inst::Args;
 use rare_list::Sequence;
 use rare_term::TermId;
 
 /// The rule of a step.
-#[derive(Clone, Copy, Debug, PartialEq, Eq)]
+#[derive(Debug, Drop)]
 pub enum StepRule {
     /// Both sides are one term.
     Refl,
@@ -14,6 +15,9 @@ pub enum StepRule {
     Trans,
     /// Both sides have one value, as terms without names.
     Evaluate,
+    /// An instance of a rule of the book, by its number there, from 0: its arguments are one for each name
+    /// of the rule, and a premise says of each of the rule's premises that it is true.
+    Rewrite { rule: usize, args: Args },
 }
 
 /// A step: the two sides of the equation that it concludes, its rule, and the places of its premises

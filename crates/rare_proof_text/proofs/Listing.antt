@@ -1,22 +1,15 @@
 -- Lists of ids, one symbol after the other.
-use Rattle.std.proofs.Common.{◌≡◌, ℕ, zero, suc, ◌+◌, ◌≤◌, true, false, List, [], ◌∷◌, ◌++◌, map, take, drop, length, slice_get, Some, None, Ok, refl, ap, sym, ◌∙◌, arith, if◌then◌else◌}
+use Rattle.std.proofs.Common.{◌≡◌, ℕ, zero, suc, ◌+◌, ◌≤◌, true, false, List, [], ◌∷◌, ◌++◌, map, take, drop, length, slice_get, Some, Ok, refl, ap, sym, ◌∙◌, arith, if◌then◌else◌}
 use Rattle.std.proofs.lemmas.List.{map-append}
 use Rattle.std.proofs.lemmas.Option.{none-some, same_Some}
 use Rattle.rare_base.specs.declared.answers.Reason.TheVariants as reason
 use Rattle.rare_sexpr.specs.declared.tree.Sexpr.{Sexpr}
 use Rattle.rare_sexpr.specs.Tree.{kind_of, text_of}
+use Rattle.rare_scope.proofs.Listing.{drop_at, drop_all}
 use Rattle.rare_scope.specs.Reading.{Read, refused, go_on, is_symbol_kind}
 use Rattle.rare_proof_text.specs.ProofText.{ids_from}
 
 module _ {A : Type 0} where
-  at_suc : (xs : List A) (k : ℕ) (x : A) → slice_get xs k ≡ Some x → drop k xs ≡ x ∷ drop (suc k) xs
-  at_suc [] k x is = absurd (none-some x is)
-  at_suc (y ∷ ys) zero x is = ap (λ z. z ∷ ys) (same_Some y x is)
-  at_suc (y ∷ ys) (suc k) x is = at_suc ys k x is
-
-  pub drop_at : (xs : List A) (k : ℕ) (x : A) → slice_get xs k ≡ Some x → drop k xs ≡ x ∷ drop (k + 1) xs
-  drop_at xs k x is = let n : suc k ≡ k + 1 = omega arith in at_suc xs k x is ∙ ap (λ j. x ∷ drop j xs) n
-
   take_suc : (xs : List A) (k : ℕ) (y : A) → slice_get xs k ≡ Some y → take (suc k) xs ≡ take k xs ++ y ∷ []
   take_suc [] k y is = absurd (none-some y is)
   take_suc (x ∷ xs) zero y is = ap (λ z. z ∷ []) (same_Some x y is)
@@ -41,16 +34,10 @@ ids_stop xs k x at is =
     ∙ ap (λ b. go_on (if b then Ok (text_of x) else refused x reason.BadForm) (λ id. ids_from (map text_of (take k xs) ++ id ∷ []) (drop (k + 1) xs))) is
 
 pub ids_whole : (xs : List Sexpr) (k : ℕ) → length xs ≤ k → ids_on xs k ≡ Ok (map text_of xs)
-ids_whole xs k le = λ i. ids_from (map text_of (all_taken xs k le i)) (all_dropped xs k le i)
+ids_whole xs k le = λ i. ids_from (map text_of (all_taken xs k le i)) (drop_all xs k le i)
   where
     all_taken : (ys : List Sexpr) (j : ℕ) → length ys ≤ j → take j ys ≡ ys
     all_taken [] zero le = refl
     all_taken [] (suc j) le = refl
     all_taken (y ∷ ys) zero le = absurd (omega (arith, le))
     all_taken (y ∷ ys) (suc j) le = ap (λ zs. y ∷ zs) (all_taken ys j (omega (arith, le)))
-
-    all_dropped : (ys : List Sexpr) (j : ℕ) → length ys ≤ j → drop j ys ≡ []
-    all_dropped [] zero le = refl
-    all_dropped [] (suc j) le = refl
-    all_dropped (y ∷ ys) zero le = absurd (omega (arith, le))
-    all_dropped (y ∷ ys) (suc j) le = all_dropped ys j (omega (arith, le))

@@ -1,3 +1,4 @@
+pub mod ArgumentText
 pub mod ProofCommands
 pub mod ProofText
 pub mod Commands

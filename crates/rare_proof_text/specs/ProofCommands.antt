@@ -3,13 +3,13 @@ use Rattle.std.specs.Prelude.{ℕ, List, [], ◌∷◌, ◌++◌}
 use Rattle.rare_sort.specs.declared.tree.Tree.{Tree}
 use Rattle.rare_scope.specs.Names.{Names, a_term}
 use Rattle.rare_proof.specs.Steps.{Equation}
-use Rattle.rare_proof.specs.declared.step.StepRule.{StepRule}
+use Rattle.rare_proof_text.specs.ArgumentText.{NamedRule}
 
--- a step: its id, the equation that it concludes, its rule, and the ids of its premises
+-- a step: its id, the equation that it concludes, its rule, or why it names none, and the ids of its premises
 pub record NamedStep : Type 0 where
   pub id : List ℕ
   pub concluded : Equation
-  pub rule : StepRule
+  pub rule : NamedRule
   pub premises : List (List ℕ)
 
 pub data ProofCommand : Type 0 where

@@ -1,10 +1,11 @@
 //! Definitions of names, read from the items of their commands.
 ghost use Rattle.rare_term.specs.State.{Grows};
 ghost use Rattle.rare_operators.specs.TermAnswers.{AnswersTerm};
-ghost use Rattle.rare_proof_text.specs.Commands.{AnswersCommand, CommandHasIds, DefinesNew};
+ghost use Rattle.rare_proof_text.specs.Commands.{AnswersCommand, DefinesNew, IsCommandOf};
 ghost use Rattle.rare_proof_text.specs.ProofText.{begins_at_sign, definition_command, definition_name, free_definition_name};
 ghost use Rattle.rare_proof_text.specs.declared.words.ProofWord.TheVariants as word;
 ghost use Rattle.rare_proof_text.specs.inner.Parts.{behind_word};
+ghost use Rattle.rare_rule.specs.Books.{BookRule};
 ghost use Rattle.rare_scope.specs.Answers.{AnswersBytes};
 ghost use Rattle.rare_scope.specs.Names.{AreMeant, is_declared, names_of};
 ghost use Rattle.rare_sexpr.specs.Tree.{items_of};
@@ -115,7 +116,7 @@ fn read_parts<'e, E: Expr, T: Terms>(
         (definition_command (T.state terms.old).declared
         (names_of (T.state terms.old).trees scope.now) (E.tree name.now) (E.tree list.now)
         (E.tree sort.now) (E.tree term.now)) }
-    ensures ids { IfOk result (CommandHasIds (length (T.state terms.new).trees)) }
+    ensures ids { IfOk result (IsCommandOf (T.state terms.new)) }
     ensures new { IfOk result (DefinesNew scope.now) }
     ensures grows { Grows (T.state terms.old) (T.state terms.new) }
 {
@@ -132,11 +133,11 @@ pub(crate) fn read_definition<'e, E: Expr, T: Terms>(
     terms: &mut T,
 ) -> Result<ReadCommand<'e, E>, Fault>
     requires { AreMeant (T.state terms.old) scope.now }
-    ensures read { AnswersCommand E.tree (T.state terms.new).trees result
+    ensures read { (book : List BookRule) → AnswersCommand E.tree (T.state terms.new).trees result
         (behind_word (T.state terms.old).declared
-        (names_of (T.state terms.old).trees scope.now) (E.tree e.now) word.DefineFun
+        (names_of (T.state terms.old).trees scope.now) book (E.tree e.now) word.DefineFun
         (items_of (E.tree e.now))) }
-    ensures ids { IfOk result (CommandHasIds (length (T.state terms.new).trees)) }
+    ensures ids { IfOk result (IsCommandOf (T.state terms.new)) }
     ensures new { IfOk result (DefinesNew scope.now) }
     ensures grows { Grows (T.state terms.old) (T.state terms.new) }
 {

@@ -1,8 +1,10 @@
 //! Proofs, read from texts: one command at a time over the names of a problem.
 #![tactic(auto)]
 
+mod arguments;
 mod command;
 mod definition;
+mod ending;
 mod parts;
 mod read;
 mod sides;

@@ -2,7 +2,7 @@
 ghost use Rattle.rare_term.specs.State.{Grows};
 ghost use Rattle.rare_proof.specs.Sided.{AreSides};
 ghost use Rattle.rare_proof_text.specs.ProofText.{clause_by, equation_by, sides_at};
-ghost use Rattle.rare_proof_text.specs.inner.Parts.{AnswersSides, pair_at};
+ghost use Rattle.rare_proof_text.specs.inner.Parts.{AnswersAs, pair_at};
 ghost use Rattle.rare_scope.specs.Names.{AreMeant, names_of};
 ghost use Rattle.rare_scope.specs.Reading.{go_on};
 ghost use Rattle.rare_sexpr.specs.Tree.{items_of};
@@ -31,7 +31,7 @@ fn read_terms<E: Expr, T: Terms>(
     terms: &mut T,
 ) -> Result<Sides, Fault>
     requires { AreMeant (T.state terms.old) scope.now }
-    ensures read { AnswersSides (T.state terms.new).trees result
+    ensures read { AnswersAs (pair_at (T.state terms.new).trees) result
         (go_on (term_at (T.state terms.old).declared (names_of (T.state terms.old).trees scope.now)
         (E.tree a.now))
         (λ s. go_on (term_at (T.state terms.old).declared
@@ -52,7 +52,7 @@ fn read_equation<E: Expr, T: Terms>(
     terms: &mut T,
 ) -> Result<Sides, Fault>
     requires { AreMeant (T.state terms.old) scope.now }
-    ensures read { AnswersSides (T.state terms.new).trees result
+    ensures read { AnswersAs (pair_at (T.state terms.new).trees) result
         (equation_by (T.state terms.old).declared
         (names_of (T.state terms.old).trees scope.now) (E.tree e.now) (items_of (E.tree e.now))) }
     ensures ids { IfOk result (AreSides (length (T.state terms.new).trees)) }
@@ -78,7 +78,7 @@ fn read_clause<E: Expr, T: Terms>(
     terms: &mut T,
 ) -> Result<Sides, Fault>
     requires { AreMeant (T.state terms.old) scope.now }
-    ensures read { AnswersSides (T.state terms.new).trees result
+    ensures read { AnswersAs (pair_at (T.state terms.new).trees) result
         (clause_by (T.state terms.old).declared
         (names_of (T.state terms.old).trees scope.now) (E.tree e.now) (items_of (E.tree e.now))) }
     ensures ids { IfOk result (AreSides (length (T.state terms.new).trees)) }
@@ -109,7 +109,7 @@ fn have_one_sort<T: Terms>(terms: &T, a: TermId, b: TermId) -> bool
 // The sides, where they have one sort.
 fn of_one_sort<E: Expr, T: Terms>(e: &E, sides: Sides, terms: &T) -> Result<Sides, Fault>
     requires { AreSides (length (T.state terms.now).trees) sides }
-    ensures read { AnswersSides (T.state terms.now).trees result
+    ensures read { AnswersAs (pair_at (T.state terms.now).trees) result
         (sides_of_one_sort (T.state terms.now).declared (E.tree e.now)
         (tree_at (T.state terms.now).trees sides.left.0)
         (tree_at (T.state terms.now).trees sides.right.0)) }
@@ -122,8 +122,8 @@ fn of_one_sort<E: Expr, T: Terms>(e: &E, sides: Sides, terms: &T) -> Result<Side
     }
 }
 
-/// The sides of the equation of a clause, which have one sort, or the first fault; where they have two,
-/// the fault of the command.
+/// The sides of the equation of a clause, which have one sort, or the first fault; where they have
+/// two, the fault of the command.
 pub(crate) fn read_sides<E: Expr, T: Terms>(
     alloc: Global,
     e: &E,
@@ -132,7 +132,7 @@ pub(crate) fn read_sides<E: Expr, T: Terms>(
     terms: &mut T,
 ) -> Result<Sides, Fault>
     requires { AreMeant (T.state terms.old) scope.now }
-    ensures read { AnswersSides (T.state terms.new).trees result
+    ensures read { AnswersAs (pair_at (T.state terms.new).trees) result
         (sides_at (T.state terms.old).declared
         (names_of (T.state terms.old).trees scope.now) (E.tree e.now) (E.tree clause.now)) }
     ensures ids { IfOk result (AreSides (length (T.state terms.new).trees)) }

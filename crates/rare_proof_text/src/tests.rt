@@ -1,8 +1,14 @@
-//! Commands of proofs: what is read is shown by its words, what is refused by its place and its reason.
+//! Commands of proofs: what is read is shown by its words, what is refused by its place and its
+//! reason.
 ghost use Rattle.std.specs.Prelude.{◌<◌, length};
+
+mod books;
 
 use crate::{ReadCommand, ReadStep, read_command};
 use rare_base::{Fault, Text};
+use rare_inst::Arg;
+use rare_proof::StepRule;
+use rare_rule::Book;
 use rare_scope::Scope;
 use rare_sexpr::{Expr, Next, Reader, Sexpr};
 use rare_term::Plain;
@@ -41,9 +47,37 @@ fn show_fault(alloc: Global, fault: Fault) -> Result<Text, AllocError> {
     }
 }
 
+fn arg_word(arg: &Arg) -> &'static [u8] {
+    match arg {
+        Arg::Sort(_) => b" sort",
+        Arg::Linear(_) => b" linear",
+        Arg::Term(_) => b" term",
+        Arg::List(_) => b" list",
+    }
+}
+
+// Writes the number of a rule of the book and what its arguments are, or why there is none.
+fn show_rule<E: Expr>(step: &ReadStep<'_, E>, out: &mut Text) -> Result<(), AllocError> {
+    match &step.rule {
+        Ok(StepRule::Rewrite { rule, args }) => {
+            out.append(if *rule == 0 { b" 0" } else { b" 1" })?;
+            for arg in args.items() {
+                out.append(arg_word(arg))?;
+            }
+            Ok(())
+        }
+        Ok(_) => Ok(()),
+        Err(fault) => {
+            out.push(b' ')?;
+            out.append(fault.word().as_bytes())
+        }
+    }
+}
+
 fn show_step<E: Expr>(alloc: Global, step: &ReadStep<'_, E>) -> Result<Text, AllocError> {
     let mut out = Text::of(alloc, b"step ")?;
     out.append(step.id)?;
+    show_rule(step, &mut out)?;
     if let Some(ids) = step.premises {
         for k in 0..ids.len() {
             out.push(b' ')?;
@@ -74,7 +108,7 @@ fn show_command<E: Expr>(alloc: Global, command: &ReadCommand<'_, E>) -> Result<
     }
 }
 
-fn show_answer(alloc: Global, text: &[u8]) -> Result<Text, AllocError>
+fn show_answer(alloc: Global, book: &Book, text: &[u8]) -> Result<Text, AllocError>
     requires { length text.now < 1000000 }
 {
     let Some(e) = expression(alloc, text)? else {
@@ -82,19 +116,19 @@ fn show_answer(alloc: Global, text: &[u8]) -> Result<Text, AllocError>
     };
     let scope = Scope::new(alloc);
     let mut terms = Plain::new(alloc);
-    match read_command(alloc, &e, &scope, &mut terms) {
+    match read_command(alloc, &e, &scope, book, &mut terms) {
         Ok(command) => show_command(alloc, &command),
         Err(fault) => show_fault(alloc, fault),
     }
 }
 
 // The first row that is answered otherwise.
-fn first_wrong(alloc: Global, rows: &[Row]) -> Result<&'static str, AllocError> {
+fn first_wrong(alloc: Global, book: &Book, rows: &[Row]) -> Result<&'static str, AllocError> {
     for row in rows {
         if row.text.len() >= 1000 {
             return Ok(row.name);
         }
-        let shown = show_answer(alloc, row.text.as_bytes())?;
+        let shown = show_answer(alloc, book, row.text.as_bytes())?;
         if shown.bytes() != row.want.as_bytes() {
             return Ok(row.name);
         }
@@ -210,6 +244,119 @@ const STEPS: [Row; 10] = [
     },
 ];
 
+// Steps by rules of the book, by the number of the rule and its arguments.
+const INSTANCES: [Row; 5] = [
+    Row {
+        name: "an instance",
+        text: "(step t (cl (= 1 1)) :rule rare_rewrite :args (\"sw\" true false))",
+        want: "step t 0 term term",
+    },
+    Row {
+        name: "an instance of each kind of names",
+        text: "(step t (cl (= 1 1)) :rule rare_rewrite :args (\"kinds\" (Array Int Bool) (+ 7 1) 0 1 #x0a (rare-list true false)))",
+        want: "step t 1 sort linear linear term term list",
+    },
+    Row {
+        name: "premises before arguments",
+        text: "(step t (cl (= 1 1)) :rule rare_rewrite :premises (a b) :args (\"kinds\" Int 8 0 1 #x0a (rare-list)))",
+        want: "step t 1 sort linear linear term term list a b",
+    },
+    Row {
+        name: "a rule that is not in the book",
+        text: "(step t (cl (= 1 1)) :rule rare_rewrite :args (\"swap\" zz))",
+        want: "step t NoSuchRule",
+    },
+    Row {
+        name: "another number of arguments",
+        text: "(step t (cl (= 1 1)) :rule rare_rewrite :args (\"sw\" zz 1.5 p))",
+        want: "step t ArgCount",
+    },
+];
+
+// Steps by rules of the book that are refused.
+const ARGUMENTS: [Row; 16] = [
+    Row {
+        name: "an instance without arguments",
+        text: "(step t (cl (= 1 1)) :rule rare_rewrite)",
+        want: "1:1 BadForm",
+    },
+    Row {
+        name: "an instance without arguments of unknown terms",
+        text: "(step t1 (cl (= zz p)) :rule rare_rewrite)",
+        want: "1:17 UnknownSymbol",
+    },
+    Row {
+        name: "premises without arguments",
+        text: "(step t (cl (= 1 1)) :rule rare_rewrite :premises (a))",
+        want: "1:1 BadForm",
+    },
+    Row {
+        name: "a premise that is no symbol before arguments",
+        text: "(step t (cl (= 1 1)) :rule rare_rewrite :premises (2) :args (\"sw\" true))",
+        want: "1:52 BadForm",
+    },
+    Row {
+        name: "another item where arguments stand",
+        text: "(step t (cl (= 1 1)) :rule rare_rewrite :arg (\"sw\" true true))",
+        want: "1:41 BadForm",
+    },
+    Row {
+        name: "another item behind premises",
+        text: "(step t (cl (= 1 1)) :rule rare_rewrite :premises (a) sw (\"sw\" true true))",
+        want: "1:55 BadForm",
+    },
+    Row {
+        name: "arguments before premises",
+        text: "(step t (cl (= 1 1)) :rule rare_rewrite :args (\"sw\" true true) :premises (a))",
+        want: "1:64 BadForm",
+    },
+    Row {
+        name: "arguments that are no list",
+        text: "(step t (cl (= 1 1)) :rule rare_rewrite :args sw)",
+        want: "1:47 BadForm",
+    },
+    Row {
+        name: "no argument",
+        text: "(step t (cl (= 1 1)) :rule rare_rewrite :args ())",
+        want: "1:47 BadForm",
+    },
+    Row {
+        name: "a name that is no string",
+        text: "(step t (cl (= 1 1)) :rule rare_rewrite :args (sw true true))",
+        want: "1:48 BadForm",
+    },
+    Row {
+        name: "an unknown term",
+        text: "(step t (cl (= 1 1)) :rule rare_rewrite :args (\"sw\" true zz))",
+        want: "1:58 UnknownSymbol",
+    },
+    Row {
+        name: "an unknown sort",
+        text: "(step t (cl (= 1 1)) :rule rare_rewrite :args (\"kinds\" S zz 0 1 #x0a (rare-list)))",
+        want: "1:56 UnknownSymbol",
+    },
+    Row {
+        name: "an unknown width",
+        text: "(step t (cl (= 1 1)) :rule rare_rewrite :args (\"kinds\" Int zz 0 1 #x0a (rare-list)))",
+        want: "1:60 UnknownSymbol",
+    },
+    Row {
+        name: "a term for a list",
+        text: "(step t (cl (= 1 1)) :rule rare_rewrite :args (\"kinds\" Int 8 0 1 #x0a true))",
+        want: "1:71 BadForm",
+    },
+    Row {
+        name: "another word for rare-list",
+        text: "(step t (cl (= 1 1)) :rule rare_rewrite :args (\"kinds\" Int 8 0 1 #x0a (list true)))",
+        want: "1:72 BadForm",
+    },
+    Row {
+        name: "an unknown term of a list",
+        text: "(step t (cl (= 1 1)) :rule rare_rewrite :args (\"kinds\" Int 8 0 1 #x0a (rare-list true zz)))",
+        want: "1:87 UnknownSymbol",
+    },
+];
+
 // Definitions that are refused.
 const DEFINITIONS: [Row; 9] = [
     Row {
@@ -261,8 +408,17 @@ const DEFINITIONS: [Row; 9] = [
 
 #[test]
 fn commands_are_read_or_refused(rt: HostRuntime) -> Result<(), Fail> {
-    assert_eq!(rt; first_wrong(rt.alloc(), &COMMANDS)?, "none");
-    assert_eq!(rt; first_wrong(rt.alloc(), &STEPS)?, "none");
-    assert_eq!(rt; first_wrong(rt.alloc(), &DEFINITIONS)?, "none");
+    let book = Book::new(rt.alloc());
+    assert_eq!(rt; first_wrong(rt.alloc(), &book, &COMMANDS)?, "none");
+    assert_eq!(rt; first_wrong(rt.alloc(), &book, &STEPS)?, "none");
+    assert_eq!(rt; first_wrong(rt.alloc(), &book, &DEFINITIONS)?, "none");
+    Ok(())
+}
+
+#[test]
+fn instances_are_read_or_refused(rt: HostRuntime) -> Result<(), Fail> {
+    let book = books::book(rt.alloc())?;
+    assert_eq!(rt; first_wrong(rt.alloc(), &book, &INSTANCES)?, "none");
+    assert_eq!(rt; first_wrong(rt.alloc(), &book, &ARGUMENTS)?, "none");
     Ok(())
 }

@@ -3,9 +3,10 @@ ghost use Rattle.std.specs.Prelude.{◌≡◌, ◌<◌, ◌≤◌, length, IfOk}
 ghost use Rattle.rare_sort.specs.DeclaredSorts.{IsSymbol};
 ghost use Rattle.rare_sort.specs.Families.{family};
 
-use super::{Row, first_wrong};
-use crate::{Proof, StepFault, StepRule};
+use super::{By, Row, first_wrong};
+use crate::StepFault;
 use rare_linear::Linear;
+use rare_rule::Book;
 use rare_term::{Head, Plain, Sort, TermError, TermId, Terms};
 use std::alloc::Global;
 use std::test::Fail;
@@ -81,7 +82,7 @@ const SIGNED_QUOTIENT: Row = Row {
     name: "signed quotient",
     left: SDIV,
     right: EIGHT,
-    by: StepRule::Evaluate,
+    by: By::Evaluate,
     premises: &[],
     want: Ok(0),
 };
@@ -134,9 +135,8 @@ fn bit_vectors_are_evaluated(rt: HostRuntime) -> Result<(), Fail> {
     let alloc = rt.alloc();
     let mut terms = Plain::new(alloc);
     let (ids, last) = words(alloc, &mut terms)?;
-    let mut proof = Proof::new(alloc);
     assert_eq!(rt;
-        first_wrong(alloc, &terms, &ids, last, &mut proof, &VALUES),
+        first_wrong(alloc, &mut terms, &Book::new(alloc), &ids, last, &VALUES),
         "none"
     );
     assert_eq!(rt; StepFault::OtherValue.word(), "OtherValue");
@@ -171,7 +171,7 @@ const OF_A_SYMBOL: Row = Row {
     name: "a symbol",
     left: SYMBOL,
     right: SYMBOL,
-    by: StepRule::Evaluate,
+    by: By::Evaluate,
     premises: &[],
     want: Err(StepFault::NoValue),
 };
@@ -223,9 +223,8 @@ fn sides_without_values_are_refused(rt: HostRuntime) -> Result<(), Fail> {
     let mut terms = Plain::new(alloc);
     terms.declare_symbol(&[], &Sort::Int)?;
     let (ids, last) = numbers(&mut terms)?;
-    let mut proof = Proof::new(alloc);
     assert_eq!(rt;
-        first_wrong(alloc, &terms, &ids, last, &mut proof, &NO_VALUES),
+        first_wrong(alloc, &mut terms, &Book::new(alloc), &ids, last, &NO_VALUES),
         "none"
     );
     assert_eq!(rt; StepFault::NoValue.word(), "NoValue");

@@ -1,4 +1,4 @@
-use Rattle.std.proofs.Common.{◌≡◌, sym, ap, ◌∙◌, subst}
+use Rattle.std.proofs.Common.{sym, ap, ◌∙◌, subst}
 use Rattle.rare_base.specs.declared.answers.Fault.{Fault}
 use Rattle.rare_scope.specs.Answers.{Fails}
 use Rattle.rare_scope.specs.Entries.{entry}
@@ -15,15 +15,15 @@ returns-then-len-eq0-clause-read g c =
     let s = g.T.Terms.state c.args.terms.now in
     let names = names_of s.trees c.args.scope.now in
     let e = g.E.Expr.tree c.args.e.now in
-    subst (λ (f : Fault). Fails f (proof_command s.declared names e)) (sym c.refusal_at.ensures) (empty_command s.declared names e (sym c.len.ensures ∙ c.if-len-eq0.true))
+    subst (λ (f : Fault). Fails f (proof_command s.declared names c.args.book.now e)) (sym c.refusal_at.ensures) (empty_command s.declared names c.args.book.now e (sym c.len.ensures ∙ c.if-len-eq0.true))
 
 pub returns-then-not-is_symbol-clause-read : goal.returns-then-not-is_symbol-clause-read
 returns-then-not-is_symbol-clause-read g c =
     let s = g.T.Terms.state c.args.terms.now in
     let names = names_of s.trees c.args.scope.now in
     let e = g.E.Expr.tree c.args.e.now in
-    subst (λ (f : Fault). Fails f (proof_command s.declared names e)) (sym c.refusal_at-then-not-is_symbol.ensures)
-    (no_symbol s.declared names e (g.E.Expr.tree c.item-head.result.now) c.item-head.ensures (sym c.is_symbol.ensures ∙ c.if-not-is_symbol.true))
+    subst (λ (f : Fault). Fails f (proof_command s.declared names c.args.book.now e)) (sym c.refusal_at-then-not-is_symbol.ensures)
+    (no_symbol s.declared names c.args.book.now e (g.E.Expr.tree c.item-head.result.now) c.item-head.ensures (sym c.is_symbol.ensures ∙ c.if-not-is_symbol.true))
 
 pub returns-in-Some-clause-read : goal.returns-in-Some-clause-read
 returns-in-Some-clause-read g c =
@@ -31,7 +31,7 @@ returns-in-Some-clause-read g c =
     let tree = g.E.Expr.tree in
     let names = names_of s.trees c.args.scope.now in
     subst (λ (r : Read ProofCommand). AnswersCommand tree (g.T.Terms.state c.read_by_word.new.terms).trees c.read_by_word.result r)
-    (sym (one_word s.declared names (tree c.args.e.now) (tree c.item-head.result.now) c.in-Some.word c.item-head.ensures (sym c.is_symbol.ensures ∙ c.if-not-is_symbol.false)
+    (sym (one_word s.declared names c.args.book.now (tree c.args.e.now) (tree c.item-head.result.now) c.in-Some.word c.item-head.ensures (sym c.is_symbol.ensures ∙ c.if-not-is_symbol.false)
     (ap (entry proof_words) (sym c.text.ensures) ∙ sym c.word_of.ensures ∙ c.in-Some.is))) c.read_by_word.ensures.read
 
 pub returns-in-None-clause-read : goal.returns-in-None-clause-read
@@ -39,6 +39,6 @@ returns-in-None-clause-read g c =
     let s = g.T.Terms.state c.args.terms.now in
     let names = names_of s.trees c.args.scope.now in
     let e = g.E.Expr.tree c.args.e.now in
-    subst (λ (f : Fault). Fails f (proof_command s.declared names e)) (sym c.refusal_at-in-None.ensures)
-    (no_word s.declared names e (g.E.Expr.tree c.item-head.result.now) c.item-head.ensures (sym c.is_symbol.ensures ∙ c.if-not-is_symbol.false)
+    subst (λ (f : Fault). Fails f (proof_command s.declared names c.args.book.now e)) (sym c.refusal_at-in-None.ensures)
+    (no_word s.declared names c.args.book.now e (g.E.Expr.tree c.item-head.result.now) c.item-head.ensures (sym c.is_symbol.ensures ∙ c.if-not-is_symbol.false)
     (ap (entry proof_words) (sym c.text.ensures) ∙ sym c.word_of.ensures ∙ c.in-None.is))

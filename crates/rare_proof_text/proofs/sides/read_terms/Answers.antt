@@ -1,13 +1,14 @@
-use Rattle.std.proofs.Common.{◌≡◌, Ok, Err, refl, sym, ap, ◌∙◌, subst}
+use Rattle.std.proofs.Common.{Ok, sym, ap, ◌∙◌, subst}
 use Rattle.std.proofs.lemmas.Result.{err_from_is_err_and}
 use Rattle.rare_sort.specs.Ids.{tree_at}
 use Rattle.rare_sort.specs.declared.tree.Tree.{Tree}
-use Rattle.rare_scope.proofs.InOrder.{fails_on, goes_on}
+use Rattle.rare_scope.proofs.InOrder.{fails_on}
 use Rattle.rare_scope.specs.Answers.{Fails}
 use Rattle.rare_scope.specs.Names.{names_of}
 use Rattle.rare_scope.specs.Reading.{Read, go_on}
 use Rattle.rare_term_text.specs.TermText.{term_at}
-use Rattle.rare_proof_text.proofs.Growing.{term_kept, tree_kept}
+use Rattle.rare_term_text.proofs.Naming.{tree_kept}
+use Rattle.rare_proof_text.proofs.Growing.{read_kept}
 use Rattle.rare_proof_text.proofs.sides.read_terms.Goals as goal
 
 pub returns-in_err-right-clause-read : goal.returns-in_err-right-clause-read
@@ -19,7 +20,7 @@ returns-in_err-right-clause-read g c =
     let b = g.E.Expr.tree c.args.b.now in
     let x = tree_at m.trees c.in_ok-left.left.0 in
     let f = c.in_err-right.field-0.0 in
-    let kept = term_kept s m c.args.scope.now b c.in_ok-left.ensures.grows c.requires in
+    let kept = read_kept (λ d n. term_at d n b) s m c.args.scope.now c.in_ok-left.ensures.grows c.requires in
     let p = err_from_is_err_and c.from_residual-in_err-right.result c.from_residual-in_err-right.ensures.1 in
     let rest : Read (Tree × Tree) = go_on (term_at s.declared names b) (λ t. Ok (x, t)) in
     let whole : Read (Tree × Tree) = go_on (term_at s.declared names a) (λ u. go_on (term_at s.declared names b) (λ t. Ok (u, t))) in
@@ -35,7 +36,7 @@ returns-clause-read g c =
     let b = g.E.Expr.tree c.args.b.now in
     let left = c.in_ok-left.left in
     let y = tree_at n.trees c.in_ok-right.right.0 in
-    let kept = term_kept s m c.args.scope.now b c.in_ok-left.ensures.grows c.requires in
+    let kept = read_kept (λ d n. term_at d n b) s m c.args.scope.now c.in_ok-left.ensures.grows c.requires in
     ap (λ r. go_on r (λ u. go_on (term_at s.declared names b) (λ t. Ok (u, t)))) c.in_ok-left.ensures.read.1
     ∙ ap (λ r. go_on r (λ t. Ok (tree_at m.trees left.0, t))) (sym kept ∙ c.in_ok-right.ensures.read.1)
     ∙ ap (λ u. Ok (u, y)) (sym (tree_kept m.trees n.trees left.0 c.in_ok-right.ensures.grows.trees c.in_ok-left.ensures.read.0))
