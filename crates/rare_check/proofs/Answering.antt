@@ -1,9 +1,10 @@
 -- The answer of a proof that is checked command by command.
-use Rattle.std.proofs.Common.{◌≡◌, ℕ, zero, suc, ◌+◌, ◌<◌, drop, append_assoc, arith, Bool, true, false, ◌||◌, nat_eq, List, [], ◌∷◌, ◌++◌, map, length, slice_get, Option, Some, None, Result, Ok, Err, IfErr, subst, refl, ap, sym, ◌∙◌, if◌then◌else◌}
+use Rattle.std.proofs.Common.{◌≡◌, ℕ, zero, suc, ◌+◌, ◌<◌, drop, append_assoc, arith, Bool, true, false, not, ◌&&◌, ◌||◌, nat_eq, All, List, [], ◌∷◌, ◌++◌, map, length, slice_get, Option, Some, None, Result, Ok, Err, IfErr, subst, refl, ap, sym, ◌∙◌, if◌then◌else◌}
 use Rattle.std.specs.List.{list_any}
 use Rattle.std.proofs.Math.Bool.{or-false, or_assoc}
 use Rattle.std.proofs.lemmas.Bool.{eqb-true}
 use Rattle.std.proofs.lemmas.Bool.Decides.{same_from_decides, Decides-eqb}
+use Rattle.std.proofs.lemmas.List.Elements.{All-head, All-tail}
 use Rattle.std.proofs.lemmas.List.Folds.{list_any-append}
 use Rattle.std.proofs.lemmas.Option.{none-some, same_Some}
 use Rattle.rare_base.specs.declared.answers.Fault.{Fault}
@@ -12,23 +13,26 @@ use Rattle.rare_base.specs.Answers.{Refusal}
 use Rattle.rare_sexpr.specs.declared.tree.Sexpr.{Sexpr}
 use Rattle.rare_sexpr.specs.Commands.{Commands, put_first}
 use Rattle.rare_sort.specs.declared.declarations.Declarations.{Declarations}
-use Rattle.rare_meaning.specs.Interpretations.{AnyFunctions}
-use Rattle.rare_meaning.specs.TrueRewrite.{IsTrueRewrite}
+use Rattle.rare_meaning.specs.Interpretations.{FunctionClass}
 use Rattle.rare_meaning.proofs.RewriteLemmas.{same_is_true}
 use Rattle.rare_scope.specs.Answers.{Fails}
 use Rattle.rare_scope.specs.Names.{Names}
 use Rattle.rare_scope.specs.Reading.{Read, go_on}
 use Rattle.rare_text.specs.Problems.{StatedProblem, StatedRewrite}
 use Rattle.rare_proof.specs.declared.fault.StepFault.{StepFault}
+use Rattle.rare_rule.specs.Books.{BookRule, shipped_at}
+use Rattle.rare_proof.specs.RulesHold.{HoldsAt}
+use Rattle.rare_proof.specs.Steps.{Refl, Cong, Trans, Evaluate, Rewrite}
+use Rattle.rare_proof_text.specs.ArgumentText.{NamedRule}
 use Rattle.rare_proof_text.specs.ProofText.{proof_command, proof_from}
 use Rattle.rare_proof_text.specs.ProofCommands.{ProofCommand, Define, Step, Conclude, names_behind}
 use Rattle.rare_check.specs.declared.report.Report.{Report}
 use Rattle.rare_check.specs.declared.report.Verdict.{Verdict}
 use Rattle.rare_check.specs.declared.report.Verdict.TheVariants.{Valid}
-use Rattle.rare_check.specs.Verdicts.{Bad, fault_of, added_by, bad_or, first_bad, is_place, concludes, rewrite_place, verdict_by, report_by, on_proof, ValidAreTrue}
-use Rattle.rare_check.specs.Checking.{Progress, bad_after, verdicts_with, report_with, answer_from, Refuses}
-use Rattle.rare_check.specs.inner.Progress.{progress, unless_bad, by_fault, concluded_after, with_place}
-use Rattle.rare_check.specs.inner.Truth.{PlacesAreTrue}
+use Rattle.rare_check.specs.Verdicts.{Bad, fault_of, added_by, bad_or, first_bad, is_place, concludes, is_rule, names_rule, rewrite_place, trusted_by, verdict_by, report_by, on_proof, IsSound, TrustedHold, ValidAreTrue}
+use Rattle.rare_check.specs.Checking.{Progress, bad_after, trusted_with, verdicts_with, report_with, answer_from, Refuses}
+use Rattle.rare_check.specs.inner.Progress.{progress, unless_bad, by_fault, concluded_after, named_after, named_by, with_place}
+use Rattle.rare_check.specs.inner.Truth.{AreSound, NamedHold}
 use Rattle.rare_check.proofs.Listing.{head_drop}
 
 -- ---- one command more
@@ -73,45 +77,82 @@ module _ (rewrites : List StatedRewrite) (concluded : List ℕ) (c : ProofComman
   verdicts_more k [] = refl
   verdicts_more k (r ∷ rs) = let first = ap verdict_by (place_any k c) in let rest = verdicts_more (suc k) rs in λ i. first i ∷ rest i
 
-module _ (rewrites : List StatedRewrite) where
+rule_any : (named : List ℕ) (c : ProofCommand) (cs : List ProofCommand) (k : ℕ) →
+    (list_any (nat_eq k) named || (names_rule k c || list_any (names_rule k) cs)) ≡ (list_any (nat_eq k) (named_after named c) || list_any (names_rule k) cs)
+rule_any named (Define name t) cs k = refl
+rule_any named (Step s) cs k = by s.rule
+  where
+    by : (r : NamedRule) → (list_any (nat_eq k) named || (is_rule k r || list_any (names_rule k) cs)) ≡ (list_any (nat_eq k) (with_place named (named_by r)) || list_any (names_rule k) cs)
+    by (Err fault) = refl
+    by (Ok Refl) = refl
+    by (Ok Cong) = refl
+    by (Ok Trans) = refl
+    by (Ok Evaluate) = refl
+    by (Ok (Rewrite j args)) =
+        sym (or_assoc (list_any (nat_eq k) named) (nat_eq j k) (list_any (names_rule k) cs)) ∙ ap (λ b. b || list_any (names_rule k) cs) (sym (place_more k named (Some j)))
+rule_any named (Conclude name id) cs k = refl
+
+trusted_same : (f g : ℕ → Bool) → ((k : ℕ) → f k ≡ g k) → (k : ℕ) (book : List BookRule) → trusted_by f k book ≡ trusted_by g k book
+trusted_same f g same k [] = refl
+trusted_same f g same k (b ∷ bs) =
+    let rest = trusted_same f g same (suc k) bs in
+    λ i. if not b.shipped && same k i then k ∷ rest i else rest i
+
+trusted_more : (book : List BookRule) (named : List ℕ) (c : ProofCommand) (cs : List ProofCommand) → trusted_with book named (c ∷ cs) ≡ trusted_with book (named_after named c) cs
+trusted_more book named c cs =
+    trusted_same (λ k. list_any (nat_eq k) named || list_any (names_rule k) (c ∷ cs)) (λ k. list_any (nat_eq k) (named_after named c) || list_any (names_rule k) cs) (rule_any named c cs) 0 book
+
+module _ (d : Declarations) (book : List BookRule) (rewrites : List StatedRewrite) where
+  -- the report but for the trusted rules
+  abbrev with_trusted : List ℕ → Progress → List ProofCommand → Report
+  with_trusted trusted p cs = report_by (bad_after p.bad (first_bad d book rewrites p.earlier cs)) (verdicts_with rewrites p.concluded cs 0 rewrites) trusted
+
   -- a command more is the next one
-  advance : (p : Progress) (c : ProofCommand) (cs : List ProofCommand) → report_with rewrites p (c ∷ cs) ≡ report_with rewrites (progress rewrites p c) cs
-  advance p c cs = by p.bad refl
+  advance : (trusted : List ℕ) (p : Progress) (c : ProofCommand) (cs : List ProofCommand) → with_trusted trusted p (c ∷ cs) ≡ with_trusted trusted (progress d book rewrites p c) cs
+  advance trusted p c cs = by p.bad refl
     where
-      faults : (f : Option StepFault) → p.bad ≡ None → fault_of rewrites p.earlier c ≡ f →
-          report_by (bad_or c f (first_bad rewrites (p.earlier ++ added_by c) cs)) (verdicts_with rewrites p.concluded (c ∷ cs) 0 rewrites)
-          ≡ report_with rewrites (by_fault rewrites p c f) cs
+      faults : (f : Option StepFault) → p.bad ≡ None → fault_of d book rewrites p.earlier c ≡ f →
+          report_by (bad_or c f (first_bad d book rewrites (p.earlier ++ added_by c) cs)) (verdicts_with rewrites p.concluded (c ∷ cs) 0 rewrites) trusted
+          ≡ with_trusted trusted (by_fault d book rewrites p c f) cs
       faults (Some f) good e = refl
       faults None good e =
-          ap (report_by (first_bad rewrites (p.earlier ++ added_by c) cs)) (verdicts_more rewrites p.concluded c cs 0 rewrites)
-          ∙ ap (λ b. report_by (bad_after b (first_bad rewrites (p.earlier ++ added_by c) cs)) (verdicts_with rewrites (concluded_after rewrites p.concluded c) cs 0 rewrites)) (sym good)
+          ap (λ vs. report_by (first_bad d book rewrites (p.earlier ++ added_by c) cs) vs trusted) (verdicts_more rewrites p.concluded c cs 0 rewrites)
+          ∙ ap (λ b. report_by (bad_after b (first_bad d book rewrites (p.earlier ++ added_by c) cs)) (verdicts_with rewrites (concluded_after rewrites p.concluded c) cs 0 rewrites) trusted) (sym good)
 
-      by : (b : Option Bad) → p.bad ≡ b → report_with rewrites p (c ∷ cs) ≡ report_with rewrites (progress rewrites p c) cs
+      by : (b : Option Bad) → p.bad ≡ b → with_trusted trusted p (c ∷ cs) ≡ with_trusted trusted (progress d book rewrites p c) cs
       by (Some bad) e =
-          ap (λ b. report_by (bad_after b (first_bad rewrites p.earlier (c ∷ cs))) (verdicts_with rewrites p.concluded (c ∷ cs) 0 rewrites)) e
-          ∙ sym (ap (λ q. report_with rewrites q cs) (ap (unless_bad rewrites p c) e)
-          ∙ ap (λ b. report_by (bad_after b (first_bad rewrites p.earlier cs)) (verdicts_with rewrites p.concluded cs 0 rewrites)) e)
+          ap (λ b. report_by (bad_after b (first_bad d book rewrites p.earlier (c ∷ cs))) (verdicts_with rewrites p.concluded (c ∷ cs) 0 rewrites) trusted) e
+          ∙ sym (ap (λ q. with_trusted trusted q cs) (ap (unless_bad d book rewrites p c) e)
+          ∙ ap (λ b. report_by (bad_after b (first_bad d book rewrites p.earlier cs)) (verdicts_with rewrites p.concluded cs 0 rewrites) trusted) e)
       by None e =
-          ap (λ b. report_by (bad_after b (first_bad rewrites p.earlier (c ∷ cs))) (verdicts_with rewrites p.concluded (c ∷ cs) 0 rewrites)) e
-          ∙ faults (fault_of rewrites p.earlier c) e refl
-          ∙ sym (ap (λ q. report_with rewrites q cs) (ap (unless_bad rewrites p c) e))
+          ap (λ b. report_by (bad_after b (first_bad d book rewrites p.earlier (c ∷ cs))) (verdicts_with rewrites p.concluded (c ∷ cs) 0 rewrites) trusted) e
+          ∙ faults (fault_of d book rewrites p.earlier c) e refl
+          ∙ sym (ap (λ q. with_trusted trusted q cs) (ap (unless_bad d book rewrites p c) e))
+
+  report_more : (p : Progress) (named : List ℕ) (c : ProofCommand) (cs : List ProofCommand) →
+      report_with d book rewrites p named (c ∷ cs) ≡ report_with d book rewrites (progress d book rewrites p c) (named_after named c) cs
+  report_more p named c cs = ap (λ trusted. with_trusted trusted p (c ∷ cs)) (trusted_more book named c cs) ∙ advance (trusted_with book (named_after named c) cs) p c cs
+
+  abbrev on_command : Names → Progress → List ℕ → Commands → Read ProofCommand → Read Report
+  on_command names p named rest m =
+      on_proof (report_with d book rewrites p named) (go_on m (λ b. go_on (proof_from d (names_behind names b) book rest.list rest.fault) (λ cs. Ok (b ∷ cs))))
 
   -- a command that was read, and the answer with the commands behind it
-  pub one_more : (d : Declarations) (names : Names) (p q : Progress) (e : Sexpr) (c : ProofCommand) (rest : Commands) → proof_command d names e ≡ Ok c → q ≡ progress rewrites p c →
-      answer_from d rewrites names p (put_first e rest) ≡ answer_from d rewrites (names_behind names c) q rest
-  one_more d names p q e c rest is same =
-      ap (λ m. on_proof (report_with rewrites p) (go_on m (λ b. go_on (proof_from d (names_behind names b) rest.list rest.fault) (λ cs. Ok (b ∷ cs))))) is
-      ∙ by (proof_from d (names_behind names c) rest.list rest.fault) ∙ ap (λ r. answer_from d rewrites (names_behind names c) r rest) (sym same)
+  pub one_more : (names : Names) (p q : Progress) (named : List ℕ) (e : Sexpr) (c : ProofCommand) (rest : Commands) → proof_command d names book e ≡ Ok c → q ≡ progress d book rewrites p c →
+      answer_from d book rewrites names p named (put_first e rest) ≡ answer_from d book rewrites (names_behind names c) q (named_after named c) rest
+  one_more names p q named e c rest is same =
+      ap (on_command names p named rest) is
+      ∙ by (proof_from d (names_behind names c) book rest.list rest.fault) ∙ ap (λ r. answer_from d book rewrites (names_behind names c) r (named_after named c) rest) (sym same)
     where
-      by : (r : Read (List ProofCommand)) → on_proof (report_with rewrites p) (go_on r (λ cs. Ok (c ∷ cs))) ≡ on_proof (report_with rewrites (progress rewrites p c)) r
-      by (Ok cs) = ap Ok (advance p c cs)
+      by : (r : Read (List ProofCommand)) → on_proof (report_with d book rewrites p named) (go_on r (λ cs. Ok (c ∷ cs))) ≡ on_proof (report_with d book rewrites (progress d book rewrites p c) (named_after named c)) r
+      by (Ok cs) = ap Ok (report_more p named c cs)
       by (Err f) = refl
 
   -- a command that is refused
-  pub one_refused : (d : Declarations) (names : Names) (p : Progress) (e : Sexpr) (rest : Commands) (f : Fault) → Fails f (proof_command d names e) → Refuses f (answer_from d rewrites names p (put_first e rest))
-  one_refused d names p e rest (fault.Refused place reason) h =
-      ap (λ m. on_proof (report_with rewrites p) (go_on m (λ b. go_on (proof_from d (names_behind names b) rest.list rest.fault) (λ cs. Ok (b ∷ cs))))) h
-  one_refused d names p e rest fault.Memory h = tt
+  pub one_refused : (names : Names) (p : Progress) (named : List ℕ) (e : Sexpr) (rest : Commands) (f : Fault) → Fails f (proof_command d names book e) →
+      Refuses f (answer_from d book rewrites names p named (put_first e rest))
+  one_refused names p named e rest (fault.Refused place reason) h = ap (on_command names p named rest) h
+  one_refused names p named e rest fault.Memory h = tt
 
 -- ---- a refusal, with the bytes that follow
 
@@ -141,15 +182,89 @@ verdict_at all concluded (r ∷ rs) j zero e = let n : j ≡ j + 0 = omega arith
     by false v = cc
 verdict_at all concluded (r ∷ rs) j (suc k) e = let n : suc j + k ≡ j + suc k = omega arith in ap (λ i. list_any (nat_eq i) concluded) (sym n) ∙ verdict_at all concluded rs (suc j) k e
 
--- where all that is concluded is true, so is each rewrite with the verdict valid
-pub valid_true : (problem : StatedProblem) (p : Progress) → PlacesAreTrue problem.declared problem.rewrites p.concluded → ValidAreTrue problem (report_with problem.rewrites p [])
-valid_true problem p h = by p.bad
+-- the trusted rules from a place on, by whether the rule at the place is one
+module _ (test : ℕ → Bool) where
+  trusted_by_head : (bs : List BookRule) (k j : ℕ) (s : Bool) → shipped_at bs k ≡ Some s →
+      trusted_by test j (drop k bs) ≡ (if not s && test j then j ∷ trusted_by test (suc j) (drop (suc k) bs) else trusted_by test (suc j) (drop (suc k) bs))
+  trusted_by_head [] k j s is = absurd (none-some s is)
+  trusted_by_head (b ∷ bs) zero j s is = ap (λ x. if not x && test j then j ∷ trusted_by test (suc j) bs else trusted_by test (suc j) bs) (same_Some b.shipped s is)
+  trusted_by_head (b ∷ bs) (suc k) j s is = trusted_by_head bs k j s is
+
+  shipped_there : (bs : List BookRule) (k : ℕ) → k < length bs → (s : Bool) × (shipped_at bs k ≡ Some s)
+  shipped_there [] k lt = absurd (omega (arith, lt))
+  shipped_there (b ∷ bs) zero lt = (b.shipped, refl)
+  shipped_there (b ∷ bs) (suc k) lt = shipped_there bs k (omega (arith, lt))
+
+  pub trusted_further : (bs : List BookRule) (k : ℕ) (ks : List ℕ) (is : Bool) → k < length bs → ((s : Bool) → shipped_at bs k ≡ Some s → is ≡ (not s && test k)) →
+      ks ++ trusted_by test k (drop k bs) ≡ (if is then ks ++ k ∷ [] else ks) ++ trusted_by test (k + 1) (drop (k + 1) bs)
+  trusted_further bs k ks is lt told =
+      let s = shipped_there bs k lt in
+      let n : suc k ≡ k + 1 = omega arith in
+      ap (λ js. ks ++ js) (trusted_by_head bs k k s.0 s.1 ∙ ap (λ j. if not s.0 && test k then k ∷ trusted_by test j (drop j bs) else trusted_by test j (drop j bs)) n)
+      ∙ ap (λ x. ks ++ (if x then k ∷ rest else rest)) (sym (told s.0 s.1)) ∙ by is
+    where
+      rest : List ℕ
+      rest = trusted_by test (k + 1) (drop (k + 1) bs)
+
+      by : (x : Bool) → ks ++ (if x then k ∷ rest else rest) ≡ (if x then ks ++ k ∷ [] else ks) ++ rest
+      by true = sym (append_assoc ks (k ∷ []) rest)
+      by false = refl
+
+-- a rule that is not shipped and that passes is among those that are trusted
+trusted_at : (test : ℕ → Bool) (j : ℕ) (bs : List BookRule) (k : ℕ) → test (j + k) ≡ true → shipped_at bs k ≡ Some false → list_any (nat_eq (j + k)) (trusted_by test j bs) ≡ true
+trusted_at test j [] k is at = absurd (none-some false at)
+trusted_at test j (b ∷ bs) zero is at =
+    let n : j + 0 ≡ j = omega arith in
+    let flag = same_Some b.shipped false at in
+    let passes = ap test (sym n) ∙ is in
+    ap (λ x. list_any (nat_eq (j + 0)) (if not x && test j then j ∷ trusted_by test (suc j) bs else trusted_by test (suc j) bs)) flag
+    ∙ ap (λ x. list_any (nat_eq (j + 0)) (if x then j ∷ trusted_by test (suc j) bs else trusted_by test (suc j) bs)) passes
+    ∙ ap (λ x. x || list_any (nat_eq (j + 0)) (trusted_by test (suc j) bs)) ((Decides-eqb (j + 0) j).1 n)
+trusted_at test j (b ∷ bs) (suc k) is at =
+    let n : suc j + k ≡ j + suc k = omega arith in
+    by (not b.shipped && test j) (ap (λ i. list_any (nat_eq i) (trusted_by test (suc j) bs)) (sym n) ∙ trusted_at test (suc j) bs k (ap test n ∙ is) at)
   where
-    by : (b : Option Bad) → ValidAreTrue problem (report_by (bad_after b None) (verdicts_with problem.rewrites p.concluded [] 0 problem.rewrites))
-    by (Some bad) = tt
-    by None = λ k r at v.
+    by_head : (x : Bool) → list_any (nat_eq (j + suc k)) (trusted_by test (suc j) bs) ≡ true → (x || list_any (nat_eq (j + suc k)) (trusted_by test (suc j) bs)) ≡ true
+    by_head true rest = refl
+    by_head false rest = rest
+
+    by : (x : Bool) → list_any (nat_eq (j + suc k)) (trusted_by test (suc j) bs) ≡ true →
+        list_any (nat_eq (j + suc k)) (if x then j ∷ trusted_by test (suc j) bs else trusted_by test (suc j) bs) ≡ true
+    by true rest = by_head (nat_eq (j + suc k) j) rest
+    by false rest = rest
+
+-- what holds of each number of a list holds of those that are in it
+among : (P : ℕ → Type 0) (ks : List ℕ) (k : ℕ) → All P ks → list_any (nat_eq k) ks ≡ true → P k
+among P [] k h e = absurd cc
+among P (j ∷ ks) k h e = by (nat_eq k j) refl (among P ks k (All-tail P j ks h))
+  where
+    by : (x : Bool) → nat_eq k j ≡ x → (list_any (nat_eq k) ks ≡ true → P k) → P k
+    by true f rest = subst P (sym (eqb-true k j f)) (All-head P j ks h)
+    by false f rest = rest (ap (λ x. x || list_any (nat_eq k) ks) (sym f) ∙ e)
+
+-- where the trusted rules hold, so do those that are named
+named_hold : (c : FunctionClass) (book : List BookRule) (named : List ℕ) → All (HoldsAt c book) (trusted_with book named []) → NamedHold c book named
+named_hold c book named h k is at =
+    let n : 0 + k ≡ k = omega arith in
+    let test : ℕ → Bool = λ k. list_any (nat_eq k) named || false in
+    let passes : test (0 + k) ≡ true = ap test n ∙ ap (λ b. b || false) is in
+    let found = ap (λ i. list_any (nat_eq i) (trusted_by test 0 book)) (sym n) ∙ trusted_at test 0 book k passes at in
+    among (HoldsAt c book) (trusted_by test 0 book) k h found
+
+-- where what is concluded is true if the rules that are named hold, the report is sound
+pub sound_report : (problem : StatedProblem) (book : List BookRule) (p : Progress) (named : List ℕ) → AreSound problem.declared book problem.rewrites named p.concluded →
+    IsSound book problem (report_with problem.declared book problem.rewrites p named [])
+sound_report problem book p named h c = by p.bad
+  where
+    verdicts : List Verdict
+    verdicts = verdicts_with problem.rewrites p.concluded [] 0 problem.rewrites
+
+    by : (b : Option Bad) → TrustedHold c book (report_by (bad_after b None) verdicts (trusted_with book named [])) → ValidAreTrue c problem (report_by (bad_after b None) verdicts (trusted_with book named []))
+    by (Some bad) hold = tt
+    by None hold = λ k r at v.
         let n : 0 + k ≡ k = omega arith in
-        same_is_true AnyFunctions problem.declared r.left r.right (h k r (ap (λ i. list_any (nat_eq i) p.concluded) (sym n) ∙ verdict_at problem.rewrites p.concluded problem.rewrites 0 k v) at)
+        same_is_true c problem.declared r.left r.right
+        (h c (named_hold c book named hold) k r (ap (λ i. list_any (nat_eq i) p.concluded) (sym n) ∙ verdict_at problem.rewrites p.concluded problem.rewrites 0 k v) at)
 
 pub refused_as : (r : Result Report Fault) (x f : Fault) (A B : Result Report Refusal) → r ≡ Err x → x ≡ f → Refuses f A → A ≡ B → IfErr r (λ fault. Refuses fault B)
 refused_as r x f A B e g h same =

@@ -1,66 +1,108 @@
 -- The first condition of a command that fails, by what was judged before.
-use Rattle.std.proofs.Common.{◌≡◌, ℕ, zero, suc, ◌+◌, ◌<◌, ◌≤◌, Bool, true, false, List, [], ◌∷◌, ◌++◌, length, map, All, get_or, slice_get, Option, Some, None, position, bytes_eq, refl, ap, sym, ◌∙◌, arith, subst, if◌then◌else◌}
+use Rattle.std.proofs.Common.{◌≡◌, ℕ, zero, suc, ◌<◌, Bool, true, false, List, [], ◌∷◌, length, map, All, get_or, slice_get, Option, Some, None, Ok, Err, position, bytes_eq, refl, ap, sym, ◌∙◌, arith, subst, if◌then◌else◌}
 use Rattle.std.specs.Option.{option_map}
 use Rattle.std.proofs.lemmas.List.{length-map}
+use Rattle.std.proofs.lemmas.List.Elements.{All-nil, All-cons}
 use Rattle.std.proofs.lemmas.List.Quantifiers.{position-Some}
 use Rattle.std.proofs.lemmas.Option.{none-some, same_Some, slice_get-get_or}
 use Rattle.rare_sort.specs.Ids.{tree_at}
 use Rattle.rare_sort.specs.declared.tree.Tree.{Tree}
 use Rattle.rare_scope.specs.Reserved.{is_among}
-use Rattle.rare_text.specs.Problems.{StatedRewrite}
 use Rattle.rare_text.specs.Stated.{HaveIds, stated_rewrite}
 use Rattle.rare_text.specs.declared.problem.Rewrite.{Rewrite}
-use Rattle.rare_proof.specs.Proofs.{concluded_by, stated_step, stated_steps}
+use Rattle.rare_sort.specs.Sorting.{all_of}
+use Rattle.rare_term.specs.State.{State}
+use Rattle.rare_rule.specs.Books.{BookRule}
+use Rattle.rare_proof.specs.Proofs.{concluded_by, stated_rule, stated_step, stated_steps}
+use Rattle.rare_proof_text.specs.ArgumentText.{NamedRule}
 use Rattle.rare_proof.specs.Sided.{equation_of, AreSides}
-use Rattle.rare_proof.specs.Steps.{Equation, equation, equations_at, rule_fault, step_fault}
+use Rattle.rare_proof.specs.Steps.{Equation, equation, equations_at, step_fault}
 use Rattle.rare_proof.specs.declared.fault.StepFault.{StepFault}
 use Rattle.rare_proof.specs.declared.fault.StepFault.TheVariants.{IdUsed, NoSuchStep, NoSuchRewrite}
 use Rattle.rare_proof.specs.declared.step.Step.{Step}
 use Rattle.rare_proof.proofs.Premises.{concluded_at}
 use Rattle.rare_proof_text.specs.ProofCommands.{NamedStep}
-use Rattle.rare_check.specs.Verdicts.{NamedEquation, ids_of, equation_named, equations_named, named_step_fault, rewrite_place, equation_of_rewrite, equation_fault, conclusion_fault}
+use Rattle.rare_check.specs.Verdicts.{NamedEquation, ids_of, equation_named, equations_named, named_rule_fault, named_step_fault, rewrite_place, equation_of_rewrite, equation_fault, conclusion_fault}
 use Rattle.rare_check.specs.declared.judged.Judged.{Judged}
-use Rattle.rare_check.specs.inner.Judging.{IsJudged, earlier_of, equation_at, named_equations, place_named, places_named}
+use Rattle.rare_check.specs.inner.Judging.{IsJudged, earlier_of, equation_at, place_named, places_named}
 use Rattle.rare_check.proofs.Naming.{named_at, named_ids, wanted_some, wanted_none, place_within, equation_there}
 use Rattle.rare_check.proofs.Listing.{there}
 
 pub concluded_length : (ts : List Tree) (steps : List Step) → length (concluded_by ts steps) ≡ length steps
 concluded_length ts steps = length-map (stated_steps ts steps) (λ x. x.concluded) ∙ length-map steps (stated_step ts)
 
-module _ (ts : List Tree) (j : Judged) (h : IsJudged ts j) where
-  pub places_within : All (λ k. k < length (concluded_by ts j.proof)) j.places
-  places_within = λ k d lt. let b = h.within k d lt in let n = concluded_length ts j.proof in omega (arith, n, b)
+-- the places under ids are below a number that bounds all
+pub places_below : (n : ℕ) (ids : List (List ℕ)) (ks : List ℕ) → All (λ k. k < n) ks → (ws : List (List ℕ)) (ps : List ℕ) → places_named ids ks ws ≡ Some ps → All (λ k. k < n) ps
+places_below n ids ks within [] ps e = subst (λ (qs : List ℕ). All (λ k. k < n) qs) (same_Some [] ps e) (All-nil (λ k. k < n))
+places_below n ids ks within (w ∷ ws) ps e = by (place_named ids ks w) refl (places_named ids ks ws) refl e (places_below n ids ks within ws)
+  where
+    by : (o : Option ℕ) → place_named ids ks w ≡ o → (os : Option (List ℕ)) → places_named ids ks ws ≡ os → all_of (o ∷ map (place_named ids ks) ws) ≡ Some ps →
+        ((qs : List ℕ) → places_named ids ks ws ≡ Some qs → All (λ k. k < n) qs) → All (λ k. k < n) ps
+    by None at os m e ih = absurd (none-some ps e)
+    by (Some k) at None m e ih = absurd (none-some ps (sym (ap (option_map (λ xs. k ∷ xs)) m) ∙ e))
+    by (Some k) at (Some qs) m e ih =
+        let same : k ∷ qs ≡ ps = same_Some (k ∷ qs) ps (sym (ap (option_map (λ xs. k ∷ xs)) m) ∙ e) in
+        subst (λ (xs : List ℕ). All (λ k. k < n) xs) same (All-cons (λ k. k < n) k qs (place_within w n ids ks k within at) (ih qs m))
 
-  among : (id : List ℕ) → is_among (ids_of (earlier_of ts j)) id ≡ is_among j.ids id
-  among id = ap (λ is. is_among is id) (named_ids (concluded_by ts j.proof) j.ids j.places h.matched)
+-- the equations at places that are there
+all_there : (es : List Equation) (ps : List ℕ) → All (λ k. k < length es) ps → (xs : List Equation) × (equations_at es ps ≡ Some xs)
+all_there es [] h = ([], refl)
+all_there es (k ∷ ps) h =
+    let rest = all_there es ps (λ m d lt. h (suc m) d (omega arith)) in
+    (equation_at es k ∷ rest.0, ap (λ o. all_of (o ∷ map (slice_get es) ps)) (equation_there es k (h 0 k (omega arith))) ∙ ap (option_map (λ xs. equation_at es k ∷ xs)) rest.1)
+
+module _ (s : State) (book : List BookRule) (j : Judged) (h : IsJudged s book j) where
+  pub places_within : All (λ k. k < length (concluded_by s.trees j.proof)) j.places
+  places_within = λ k d lt. let b = h.within k d lt in let n = concluded_length s.trees j.proof in omega (arith, n, b)
+
+  among : (id : List ℕ) → is_among (ids_of (earlier_of s.trees j)) id ≡ is_among j.ids id
+  among id = ap (λ is. is_among is id) (named_ids (concluded_by s.trees j.proof) j.ids j.places h.matched)
 
   abbrev by_use : NamedStep → Bool → Option StepFault
-  by_use s b = if b then Some IdUsed else rule_fault s.rule s.concluded (equations_named (earlier_of ts j) s.premises)
+  by_use x b = if b then Some IdUsed else named_rule_fault s.declared book x.rule x.concluded (equations_named (earlier_of s.trees j) x.premises)
 
-  pub id_used : (s : NamedStep) → is_among j.ids s.id ≡ true → named_step_fault (earlier_of ts j) s ≡ Some IdUsed
-  id_used s e = ap (by_use s) (among s.id ∙ e)
+  abbrev fault_of_step : NamedStep → Option StepFault
+  fault_of_step x = named_step_fault s.declared book (earlier_of s.trees j) x
 
-  pub no_such_step : (s : NamedStep) → is_among j.ids s.id ≡ false → places_named j.ids j.places s.premises ≡ None → named_step_fault (earlier_of ts j) s ≡ Some NoSuchStep
-  no_such_step s e none =
-      ap (by_use s) (among s.id ∙ e) ∙ ap (rule_fault s.rule s.concluded) (wanted_none (concluded_by ts j.proof) j.ids j.places places_within s.premises none)
+  pub id_used : (x : NamedStep) → is_among j.ids x.id ≡ true → fault_of_step x ≡ Some IdUsed
+  id_used x e = ap (by_use x) (among x.id ∙ e)
+
+  none_there : (r : NamedRule) (e : Equation) → named_rule_fault s.declared book r e None ≡ Some NoSuchStep
+  none_there (Ok r) e = refl
+  none_there (Err fault) e = refl
+
+  pub no_such_step : (x : NamedStep) → is_among j.ids x.id ≡ false → places_named j.ids j.places x.premises ≡ None → fault_of_step x ≡ Some NoSuchStep
+  no_such_step x e none =
+      ap (by_use x) (among x.id ∙ e)
+      ∙ ap (named_rule_fault s.declared book x.rule x.concluded) (wanted_none (concluded_by s.trees j.proof) j.ids j.places places_within x.premises none)
+      ∙ none_there x.rule x.concluded
+
+  -- a step with a new id and no rule
+  pub no_rule : (x : NamedStep) (fault : StepFault) (ps : List ℕ) → is_among j.ids x.id ≡ false → places_named j.ids j.places x.premises ≡ Some ps → All (λ k. k < length j.proof) ps →
+      x.rule ≡ Err fault → fault_of_step x ≡ Some fault
+  no_rule x fault ps e some lt rule =
+      ap (by_use x) (among x.id ∙ e)
+      ∙ (λ i. named_rule_fault s.declared book (rule i) x.concluded (sym (wanted_some (concluded_by s.trees j.proof) j.ids j.places places_within x.premises ps some) i))
+      ∙ ap (named_rule_fault s.declared book (Err fault) x.concluded) (all_there (concluded_by s.trees j.proof) ps (λ k d b. let n = concluded_length s.trees j.proof in let h = lt k d b in omega (arith, h, n))).1
 
   -- a step with a new id is judged as the step at the places of its premises
-  pub by_places : (s : NamedStep) (t : Step) → is_among j.ids s.id ≡ false → places_named j.ids j.places s.premises ≡ Some t.premises →
-      s.rule ≡ t.by → s.concluded ≡ equation (tree_at ts t.left.0) (tree_at ts t.right.0) → named_step_fault (earlier_of ts j) s ≡ step_fault (concluded_by ts j.proof) (stated_step ts t)
-  by_places s t e some rule concluded =
-      ap (by_use s) (among s.id ∙ e)
-      ∙ ap (rule_fault s.rule s.concluded) (sym (wanted_some (concluded_by ts j.proof) j.ids j.places places_within s.premises t.premises some))
-      ∙ (λ i. rule_fault (rule i) (concluded i) (equations_at (concluded_by ts j.proof) t.premises))
+  pub by_places : (x : NamedStep) (t : Step) → is_among j.ids x.id ≡ false → places_named j.ids j.places x.premises ≡ Some t.premises →
+      x.rule ≡ Ok (stated_rule s.trees t.by) → x.concluded ≡ equation (tree_at s.trees t.left.0) (tree_at s.trees t.right.0) →
+      fault_of_step x ≡ step_fault s.declared book (concluded_by s.trees j.proof) (stated_step s.trees t)
+  by_places x t e some rule concluded =
+      ap (by_use x) (among x.id ∙ e)
+      ∙ ap (named_rule_fault s.declared book x.rule x.concluded) (sym (wanted_some (concluded_by s.trees j.proof) j.ids j.places places_within x.premises t.premises some))
+      ∙ (λ i. named_rule_fault s.declared book (rule i) (concluded i) (equations_at (concluded_by s.trees j.proof) t.premises))
 
-  pub named_none : (id : List ℕ) → place_named j.ids j.places id ≡ None → equation_named (earlier_of ts j) id ≡ None
-  named_none id e = named_at id (concluded_by ts j.proof) j.ids j.places ∙ ap (option_map (equation_at (concluded_by ts j.proof))) e
+  pub named_none : (id : List ℕ) → place_named j.ids j.places id ≡ None → equation_named (earlier_of s.trees j) id ≡ None
+  named_none id e = named_at id (concluded_by s.trees j.proof) j.ids j.places ∙ ap (option_map (equation_at (concluded_by s.trees j.proof))) e
 
-  pub named_some : (id : List ℕ) (k : ℕ) (s : Step) → place_named j.ids j.places id ≡ Some k → slice_get j.proof k ≡ Some s →
-      equation_named (earlier_of ts j) id ≡ Some (equation_of ts (record { left = s.left; right = s.right }))
-  named_some id k s e at =
-      let es = concluded_by ts j.proof in
-      let found = concluded_at ts j.proof k s at in
-      named_at id es j.ids j.places ∙ ap (option_map (equation_at es)) e ∙ ap Some ((there es k (equation (tree_at [] 0) (tree_at [] 0)) (equation_of ts (record { left = s.left; right = s.right })) found).1)
+  pub named_some : (id : List ℕ) (k : ℕ) (t : Step) → place_named j.ids j.places id ≡ Some k → slice_get j.proof k ≡ Some t →
+      equation_named (earlier_of s.trees j) id ≡ Some (equation_of s.trees (record { left = t.left; right = t.right }))
+  named_some id k t e at =
+      let es = concluded_by s.trees j.proof in
+      let found = concluded_at s.trees j.proof k t at in
+      named_at id es j.ids j.places ∙ ap (option_map (equation_at es)) e ∙ ap Some ((there es k (equation (tree_at [] 0) (tree_at [] 0)) (equation_of s.trees (record { left = t.left; right = t.right })) found).1)
 
   pub place_is_step : (id : List ℕ) (k : ℕ) → place_named j.ids j.places id ≡ Some k → k < length j.proof
   place_is_step id k e = place_within id (length j.proof) j.ids j.places k h.within e

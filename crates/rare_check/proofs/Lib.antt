@@ -6,4 +6,5 @@ pub mod Advancing
 pub mod Soundness
 pub mod Answering
 pub mod Holding
+mod Stepping
 pub mod Starting

@@ -1,5 +1,5 @@
 -- The equations under ids.
-use Rattle.std.proofs.Common.{◌≡◌, ℕ, zero, suc, ◌+◌, ◌<◌, ◌≤◌, Bool, true, false, List, [], ◌∷◌, ◌++◌, length, map, take, drop, All, get_or, slice_get, Option, Some, None, position, nat_lt, bytes_eq, refl, ap, sym, ◌∙◌, arith, subst, if◌then◌else◌}
+use Rattle.std.proofs.Common.{◌≡◌, ℕ, suc, ◌+◌, ◌<◌, Bool, true, false, List, [], ◌∷◌, ◌++◌, length, map, take, drop, All, slice_get, Option, Some, None, position, nat_lt, bytes_eq, refl, ap, sym, ◌∙◌, arith, subst, if◌then◌else◌}
 use Rattle.std.proofs.Math.ListN.{get_or-append}
 use Rattle.std.proofs.lemmas.Bool.Decides.{same_from_decides, Decides-ltb}
 use Rattle.std.proofs.lemmas.Bool.{lt-ltb}
@@ -12,7 +12,7 @@ use Rattle.rare_sort.specs.Sorting.{all_of}
 use Rattle.rare_sexpr.specs.declared.tree.Sexpr.{Sexpr}
 use Rattle.rare_sexpr.specs.Tree.{text_of}
 use Rattle.rare_proof.specs.Steps.{Equation, equation, equations_at}
-use Rattle.rare_check.specs.Verdicts.{NamedEquation, ids_of, equation_named, equations_named}
+use Rattle.rare_check.specs.Verdicts.{ids_of, equation_named, equations_named}
 use Rattle.rare_check.specs.inner.Judging.{place_named, places_named, equation_at, named_equations}
 use Rattle.rare_check.proofs.Listing.{split_at, take_one, all_push, all_fail}
 

@@ -3,13 +3,15 @@ ghost use Rattle.std.specs.Prelude.{◌≡◌, ◌+◌, ◌-◌, ◌^◌, ◌≤
 ghost use Rattle.rare_scope.specs.Names.{AreMeant};
 ghost use Rattle.rare_text.specs.Stated.{HaveIds, stated_problem};
 ghost use Rattle.rare_check.specs.Checking.{start, answer, Refuses};
-ghost use Rattle.rare_check.specs.Verdicts.{ValidAreTrue, checked};
+ghost use Rattle.rare_meaning.specs.Interpretations.{FunctionClass};
+ghost use Rattle.rare_check.specs.Verdicts.{IsSound, ShippedHold, checked};
 
 use crate::checking::take_commands;
 use crate::judged::Judged;
 use crate::report::Report;
 use crate::reporting::report_of;
 use rare_base::Fault;
+use rare_rule::Book;
 use rare_sexpr::Reader;
 use rare_term::Terms;
 use rare_text::Problem;
@@ -18,13 +20,14 @@ use std::marker::Model;
 
 /// Checks the proof of a problem, which comes in pieces of any size.
 ///
-/// Contracts see what it holds: the problem, the names so far, the equations that the steps so far
-/// conclude, which rewrites are concluded, the first command that is not valid, the bytes that are not
-/// yet taken, and the fault that stands.
+/// Contracts see what it holds: the problem, the book of rules, the names so far, the equations that the
+/// steps so far conclude, which rewrites are concluded, which rules of the book steps name, the first command
+/// that is not valid, the bytes that are not yet taken, and the fault that stands.
 #[derive(Drop)]
 pub struct Checker<T: Terms> {
     alloc: Global,
     terms: T,
+    book: Book,
     problem: Problem,
     // How many names the problem has before the proof.
     known: usize,
@@ -36,33 +39,38 @@ pub struct Checker<T: Terms> {
 impl<T: Terms> Model for Checker<T> {
     ghost use Rattle.rare_check.specs.Checking.{Checking};
     ghost use Rattle.rare_check.specs.inner.Kept.{checking_of, IsKept};
+    ghost use Rattle.rare_sort.specs.contracts.sort.Sort as sort;
     ghost use Rattle.rare_sort.specs.contracts.tree.Tree as e;
     ghost use Rattle.rare_sort.specs.contracts.declarations.Declarations as d;
     ghost use Rattle.std.specs.Coded.{codes};
 
     ghost Value = { Checking };
 
-    ghost coded = { Prim.hlevel (codes, e.the_row.coded, d.the_row.coded) };
+    ghost coded = { Prim.hlevel (codes, sort.the_row.coded, e.the_row.coded, d.the_row.coded) };
 
-    ghost view = { λ c. checking_of (T.state c.terms) c.known c.problem c.judged c.reader c.stopped };
+    ghost view = { λ c. checking_of (T.state c.terms) c.book c.known c.problem c.judged c.reader c.stopped };
 
-    ghost invariant = { λ c. IsKept (T.state c.terms) c.known c.problem c.judged c.reader };
+    ghost invariant = { λ c. IsKept (T.state c.terms) c.book c.known c.problem c.judged c.reader };
 }
 
 impl<T: Terms + Drop> Checker<T> {
-    /// A checker that was fed nothing, for a problem that was read into these terms.
-    /// With the bytes of a whole proof it answers what the proof comes to.
-    pub fn new(alloc: Global, terms: T, problem: Problem) -> Checker<T>
+    /// A checker that was fed nothing, for a problem that was read into these terms, by the rules of a
+    /// book, of which those that are shipped hold. With the bytes of a whole proof it answers what the
+    /// proof comes to.
+    pub fn new(alloc: Global, terms: T, book: Book, problem: Problem) -> Checker<T>
         requires ids { HaveIds (length (T.state terms).trees) problem.rewrites }
         requires names { AreMeant (T.state terms) problem.scope }
-        ensures held { result ≡ start (stated_problem (T.state terms) problem) }
+        requires shipped { (c : FunctionClass) → ShippedHold c book }
+        ensures held { result ≡ start book (stated_problem (T.state terms) problem) }
         ensures whole { (proof : List ℕ) → answer result proof
-            ≡ checked (stated_problem (T.state terms) problem) proof }
+            ≡ checked book (stated_problem (T.state terms) problem) proof }
     {
         let known = problem.scope.len();
+        let _rules = book.len();
         Checker {
             alloc,
             terms,
+            book,
             problem,
             known,
             judged: Judged::new(alloc),
@@ -87,6 +95,7 @@ impl<T: Terms + Drop> Checker<T> {
         ensures stands { IfErr result (λ fault. self.new.stopped ≡ Some fault) }
         ensures again { IfSome self.old.stopped (λ fault. result ≡ Err fault) }
         ensures problem { self.new.problem ≡ self.old.problem }
+        ensures book { self.new.book ≡ self.old.book }
     {
         if let Some(fault) = self.stopped {
             return Err(fault);
@@ -112,6 +121,7 @@ impl<T: Terms + Drop> Checker<T> {
             → Refuses fault (answer self.old (bytes.now ++ rest))) }
         ensures going { self.new.stopped ≡ None }
         ensures problem { self.new.problem ≡ self.old.problem }
+        ensures book { self.new.book ≡ self.old.book }
     {
         let Ok(()) = self.reader.feed(bytes) else {
             return Err(Fault::Memory);
@@ -119,6 +129,7 @@ impl<T: Terms + Drop> Checker<T> {
         take_commands(
             self.alloc,
             &mut self.terms,
+            &self.book,
             self.problem.rewrites.items(),
             &mut self.problem.scope,
             &mut self.judged,
@@ -127,42 +138,54 @@ impl<T: Terms + Drop> Checker<T> {
     }
 
     /// Tells the end of the proof's text, and gives the report on it. An error is the first fault of
-    /// the text, or want of memory. Where a rewrite has the verdict valid, both its sides have one
-    /// value in every interpretation.
+    /// the text, or want of memory. Where the rules that the report calls trusted hold, both sides of each
+    /// rewrite with the verdict valid have one value in every interpretation: by finite maps where the
+    /// rules hold by these, by all functions where the rules do, and so where none is trusted.
     pub fn finish(self) -> Result<Report, Fault>
         ensures report { IfOk result (λ report. answer self [] ≡ Ok report) }
         ensures refused { IfErr result (λ fault. Refuses fault (answer self [])) }
         ensures again { IfSome self.stopped (λ fault. result ≡ Err fault) }
-        ensures valid { IfOk result (λ report. ValidAreTrue self.problem report) }
+        ensures sound { IfOk result (IsSound self.book self.problem) }
     {
-        if let Some(fault) = self.stopped {
-            return Err(fault);
+        match self.stopped {
+            Some(fault) => Err(fault),
+            None => self.report_at_end(),
         }
+    }
+
+    // The report on a text that is whole, where no fault stands yet.
+    fn report_at_end(self) -> Result<Report, Fault>
+        requires going { self.stopped ≡ None }
+        ensures report { IfOk result (λ report. answer self [] ≡ Ok report) }
+        ensures refused { IfErr result (λ fault. Refuses fault (answer self [])) }
+        ensures sound { IfOk result (IsSound self.book self.problem) }
+    {
         let Checker {
             alloc,
             mut terms,
+            book,
             problem,
-            known: _,
             mut judged,
             mut reader,
-            stopped: _,
+            ..
         } = self;
         let Problem {
             rewrites,
             mut scope,
-            samples: _,
+            ..
         } = problem;
         reader.end();
         let rewrites = rewrites.items();
         take_commands(
             alloc,
             &mut terms,
+            &book,
             rewrites,
             &mut scope,
             &mut judged,
             &mut reader,
         )?;
-        match report_of(alloc, rewrites, judged) {
+        match report_of(alloc, &book, rewrites, judged) {
             Ok(report) => Ok(report),
             Err(_) => Err(Fault::Memory),
         }

@@ -2,12 +2,13 @@
 ghost use Rattle.std.specs.Prelude.{◌≡◌, ◌∷◌, ◌++◌, [], Some, None, false, length, bytes_eq, All, IfOk, IfSome, OnOk, OnErr};
 ghost use Rattle.std.specs.List.{list_any};
 ghost use Rattle.rare_proof_text.specs.Commands.{premise_ids, texts_in};
-ghost use Rattle.rare_check.specs.inner.Judging.{place_named, places_named};
+ghost use Rattle.rare_check.specs.inner.Judging.{named_by_rule, place_named, places_named};
+ghost use Rattle.rare_check.specs.inner.Progress.{with_place};
 
 use indexmap::IndexSet;
 use rare_base::{Numbers, Text};
 use rare_names::NameTable;
-use rare_proof::{Proof, StepFault};
+use rare_proof::{Proof, StepFault, StepRule};
 use rare_sexpr::Expr;
 use std::alloc::{AllocError, Global};
 
@@ -19,14 +20,15 @@ pub struct BadCommand {
 }
 
 /// What the commands of a proof came to: the proof of its valid steps, the ids of the steps with the
-/// places of their equations in it, the places of the rewrites that are concluded, and the first command
-/// that is not valid.
+/// places of their equations in it, the places of the rewrites that are concluded, the numbers of the rules
+/// of the book that steps name, and the first command that is not valid.
 #[derive(Drop)]
 pub struct Judged {
     pub ids: NameTable,
     pub places: Numbers,
     pub proof: Proof,
     pub concluded: IndexSet<usize>,
+    pub named: IndexSet<usize>,
     pub bad: Option<BadCommand>,
 }
 
@@ -37,6 +39,7 @@ impl Judged {
         ensures places { result.places ≡ [] }
         ensures proof { result.proof ≡ [] }
         ensures concluded { result.concluded.keys ≡ [] }
+        ensures named { result.named.keys ≡ [] }
         ensures bad { result.bad ≡ None }
     {
         Judged {
@@ -44,6 +47,7 @@ impl Judged {
             places: Numbers::new(alloc),
             proof: Proof::new(alloc),
             concluded: IndexSet::new(alloc),
+            named: IndexSet::new(alloc),
             bad: None,
         }
     }
@@ -99,6 +103,7 @@ impl Judged {
         ensures places { OnOk result (self.new.places ≡ self.old.places ++ place ∷ []) }
         ensures proof { self.new.proof ≡ self.old.proof }
         ensures concluded { self.new.concluded ≡ self.old.concluded }
+        ensures named { self.new.named ≡ self.old.named }
         ensures bad { self.new.bad ≡ self.old.bad }
         ensures err_ids { OnErr result (self.new.ids ≡ self.old.ids) }
         ensures err_places { OnErr result (self.new.places ≡ self.old.places) }
@@ -107,6 +112,23 @@ impl Judged {
         if let Err(error) = self.ids.add(id) {
             self.places.pop();
             return Err(error);
+        }
+        Ok(())
+    }
+
+    /// Notes the rule of the book that a step names. Where memory is wanting, all stays.
+    pub fn note_rule(&mut self, rule: &Result<StepRule, StepFault>) -> Result<(), AllocError>
+        ensures named { OnOk result (self.new.named.keys
+            ≡ with_place self.old.named.keys (named_by_rule rule.now)) }
+        ensures err_named { OnErr result (self.new.named.keys ≡ self.old.named.keys) }
+        ensures ids { self.new.ids ≡ self.old.ids }
+        ensures places { self.new.places ≡ self.old.places }
+        ensures proof { self.new.proof ≡ self.old.proof }
+        ensures concluded { self.new.concluded ≡ self.old.concluded }
+        ensures bad { self.new.bad ≡ self.old.bad }
+    {
+        if let Ok(StepRule::Rewrite { rule, .. }) = rule {
+            self.named.insert(*rule)?;
         }
         Ok(())
     }
@@ -122,6 +144,7 @@ impl Judged {
         ensures places { self.new.places ≡ self.old.places }
         ensures proof { self.new.proof ≡ self.old.proof }
         ensures concluded { self.new.concluded ≡ self.old.concluded }
+        ensures named { self.new.named ≡ self.old.named }
         ensures bad { OnOk result (self.new.bad
             ≡ Some (record { name = name.now; fault = fault })) }
         ensures err_bad { OnErr result (self.new.bad ≡ self.old.bad) }

@@ -18,8 +18,8 @@ pub type Verdicts = Sequence<Verdict>;
 /// What a proof that was read is worth.
 #[derive(Debug, Drop)]
 pub enum Report {
-    /// Each command is valid: the verdicts on the rewrites, in order, and the numbers of the rules
-    /// that are trusted, none yet.
+    /// Each command is valid: the verdicts on the rewrites, in order, and the numbers of the rules of
+    /// the book, from 0, that are trusted: those that some step names, but for shipped ones, in order.
     Checked {
         verdicts: Verdicts,
         trusted: Numbers,

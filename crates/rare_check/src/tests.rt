@@ -5,6 +5,7 @@ ghost use Rattle.rare_text.specs.Stated.{HaveIds};
 
 use crate::{Checker, Report, Verdict};
 use rare_base::{Fault, Text};
+use rare_rule::Book;
 use rare_term::{Plain, Terms};
 use rare_text::{Problem, read_problem};
 use std::alloc::{AllocError, Global};
@@ -67,7 +68,7 @@ fn check_pieces<T: Terms + Drop>(
     requires names { AreMeant (T.state terms) problem.scope }
     requires short { length front.now + length back.now ≤ 100000 }
 {
-    let mut checker = Checker::new(alloc, terms, problem);
+    let mut checker = Checker::new(alloc, terms, Book::new(alloc), problem);
     let _ = checker.feed(front);
     let _ = checker.feed(back);
     checker.finish()
@@ -155,7 +156,7 @@ const VERDICTS: [Row; 9] = [
 ];
 
 // Proofs that are not valid, or refused.
-const FAULTS: [Row; 10] = [
+const FAULTS: [Row; 11] = [
     Row {
         name: "an id that is used",
         proof: "(step a (cl (= p p)) :rule refl)(step a (cl (= p p)) :rule refl :premises (b))",
@@ -180,6 +181,11 @@ const FAULTS: [Row; 10] = [
         name: "a conclusion of another equation",
         proof: "(step a (cl (= p p)) :rule refl)(conclude r2 a)",
         want: "r2 OtherEquation",
+    },
+    Row {
+        name: "a rule that the book does not have",
+        proof: "(step a (cl (= p p)) :rule rare_rewrite :args (\"r\"))(conclude r1 a)",
+        want: "a NoSuchRule",
     },
     Row {
         name: "the first of two that are not valid",

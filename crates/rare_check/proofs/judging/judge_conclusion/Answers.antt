@@ -17,7 +17,7 @@ returns-in_default-clause-ok g c =
     let place = sym c.find_rewrite.ensures ∙ c.in_default.is in
     let fault = fault_nowhere s.trees c.args.rewrites.now (earlier_of s.trees old) c.args.name.now c.args.id.now place in
     on_ok_weaker c.set_bad.result
-    (bad_taken s.trees old new [] c.requires.judged (same_proof old new set.proof) (over_same s.trees old new c.requires.judged set.proof) (stated_rewrites s c.args.rewrites.now) (Conclude c.args.name.now c.args.id.now) NoSuchRewrite
+    (bad_taken s c.args.book.now old new [] c.requires.judged (same_proof old new set.proof) (over_same s c.args.book.now old new c.requires.judged set.proof) (stated_rewrites s c.args.rewrites.now) (Conclude c.args.name.now c.args.id.now) NoSuchRewrite
     c.requires.good fault set.ids set.places set.concluded) set.bad
 
 pub returns-in-Some-fault_of_equation-clause-ok : goal.returns-in-Some-fault_of_equation-clause-ok
@@ -30,7 +30,7 @@ returns-in-Some-fault_of_equation-clause-ok g c =
     let fault = fault_at s.trees c.args.rewrites.now (earlier_of s.trees old) c.args.name.now c.args.id.now c.in-Some.k c.index-rewrites-k.result place (rewrite_there c.args.rewrites.now c.args.name.now c.in-Some.k c.index-rewrites-k.result place c.index-rewrites-k.is)
     ∙ sym c.fault_of_equation.ensures ∙ c.in-Some-fault_of_equation.is in
     on_ok_weaker c.set_bad-in-Some-fault_of_equation.result
-    (bad_taken s.trees old new [] c.requires.judged (same_proof old new set.proof) (over_same s.trees old new c.requires.judged set.proof) (stated_rewrites s c.args.rewrites.now) (Conclude c.args.name.now c.args.id.now)
+    (bad_taken s c.args.book.now old new [] c.requires.judged (same_proof old new set.proof) (over_same s c.args.book.now old new c.requires.judged set.proof) (stated_rewrites s c.args.rewrites.now) (Conclude c.args.name.now c.args.id.now)
     c.in-Some-fault_of_equation.fault c.requires.good fault set.ids set.places set.concluded) set.bad
 
 pub returns-clause-ok : goal.returns-clause-ok
@@ -38,7 +38,7 @@ returns-clause-ok g c =
     let s = g.T.Terms.state c.args.terms.now in
     let old = c.args.judged.now in
     let place = sym c.find_rewrite.ensures ∙ c.in-Some.is in
-    conclusion_taken s.trees (stated_rewrites s c.args.rewrites.now) old c.args.name.now c.args.id.now c.in-Some.k c.insert.new.self.keys c.requires.good
+    conclusion_taken s c.args.book.now (stated_rewrites s c.args.rewrites.now) old c.args.name.now c.args.id.now c.in-Some.k c.insert.new.self.keys c.requires.good
     (fault_at s.trees c.args.rewrites.now (earlier_of s.trees old) c.args.name.now c.args.id.now c.in-Some.k c.index-rewrites-k.result place (rewrite_there c.args.rewrites.now c.args.name.now c.in-Some.k c.index-rewrites-k.result place c.index-rewrites-k.is)
     ∙ sym c.fault_of_equation.ensures ∙ c.in_default-fault_of_equation.is)
     (place_is s.trees c.args.rewrites.now c.args.name.now ∙ place) c.in_ok-insert.ensures.keys

@@ -13,8 +13,8 @@ returns-then-contains-clause-ok g c =
     let old = c.args.judged.now in
     let set = c.set_bad.ensures in
     let new = c.set_bad.new.self in
-    let step = named_step g.E.Expr.tree s.trees c.args.step.now in
-    let fault = id_used s.trees old c.requires.judged step (sym c.contains.ensures ∙ c.if-contains.true) in
+    let step = named_step g.E.Expr.tree s.trees c.args.step in
+    let fault = id_used s c.args.book.now old c.requires.judged step (sym c.contains.ensures ∙ c.if-contains.true) in
     on_ok_weaker c.set_bad.result
-    (λ bad rewrites. bad_taken s.trees old new [] c.requires.judged (same_proof old new set.proof) (over_same s.trees old new c.requires.judged set.proof) rewrites (text.Step step) IdUsed
+    (λ bad rewrites. bad_taken s c.args.book.now old new [] c.requires.judged (same_proof old new set.proof) (over_same s c.args.book.now old new c.requires.judged set.proof) rewrites (text.Step step) IdUsed
     c.requires.good fault set.ids set.places set.concluded bad) set.bad

@@ -8,5 +8,5 @@ pub returns-clause-whole : goal.returns-clause-whole
 returns-clause-whole g c proof =
     let s = g.T.Terms.state c.args.terms in
     let none = c.new.ensures in
-    ap (λ x. answer x proof) (begun s c.len-known.result c.args.problem c.new.result c.new-2.result c.len-known.ensures none.ids none.places none.concluded none.bad c.new-2.ensures)
-    ∙ answer_start (stated_problem s c.args.problem) proof
+    ap (λ x. answer x proof) (begun s c.args.book c.len-known.result c.args.problem c.new.result c.new-2.result c.len-known.ensures none.ids none.places none.concluded none.named none.bad c.new-2.ensures)
+    ∙ answer_start c.args.book (stated_problem s c.args.problem) proof
