@@ -1,5 +1,5 @@
 -- What a run writes, and with which status.
-use Rattle.std.specs.Prelude.{ℕ, Bool, true, false, nat_lt, List, [], ◌∷◌, ◌++◌, length, map, codes, decimal, Result, Ok, Err, if◌then◌else◌}
+use Rattle.std.specs.Prelude.{ℕ, Bool, true, false, nat_lt, List, [], ◌∷◌, ◌++◌, length, map, get_or, codes, decimal, Option, Some, None, Result, Ok, Err, if◌then◌else◌}
 use Rattle.std.specs.List.{flat_map, list_all, zip}
 use Rattle.rare_base.specs.declared.answers.Status.{Status}
 use Rattle.rare_base.specs.declared.answers.Status.TheVariants as status
@@ -8,7 +8,7 @@ use Rattle.rare_base.specs.Answers as base
 use Rattle.rare_base.specs.Reads.{most_file_bytes}
 use Rattle.rare_book.specs.RuleFile.{rules_of}
 use Rattle.rare_linear.specs.declared.constraint.Constraint.{Constraint}
-use Rattle.rare_rule.specs.Books.{BookRule}
+use Rattle.rare_rule.specs.Books.{BookRule, rule_names}
 use Rattle.rare_rule.specs.TypedRule.{TypedRule}
 use Rattle.rare_rule.specs.declared.param.Param.{Param}
 use Rattle.rare_rule_printing.specs.ConstraintPrinting.{constraint_text}
@@ -18,7 +18,7 @@ use Rattle.rare_check.specs.declared.report.Report.TheVariants.{Checked, Invalid
 use Rattle.rare_check.specs.declared.report.Verdict.{Verdict}
 use Rattle.rare_check.specs.declared.report.Verdict.TheVariants.{Valid, Missing}
 use Rattle.rare_proof.specs.declared.fault.StepFault.{StepFault}
-use Rattle.rare_proof.specs.Words.{word_of}
+use Rattle.rare_proof.specs.Words.{fault_text}
 use Rattle.rare_text.specs.ProblemText.{problem_of}
 use Rattle.rare_text.specs.Problems.{StatedProblem}
 use Rattle.rare_check.specs.Verdicts.{checked}
@@ -79,25 +79,29 @@ rewrite_line r = line (written_symbol r.0 ++ verdict_text r.1)
 
 -- the line of a command that is not valid, by its name and the condition that fails
 abbrev pub invalid_line : List ℕ → StepFault → List ℕ
-invalid_line name fault = line (codes "invalid " ++ written_symbol name ++ codes " " ++ word_of fault)
+invalid_line name fault = line (codes "invalid " ++ written_symbol name ++ codes " " ++ fault_text fault)
 
--- the lines of a report, over the names of the rewrites
-abbrev pub report_lines : List (List ℕ) → Report → List ℕ
-report_lines names (Checked verdicts trusted) = flat_map rewrite_line (zip names verdicts)
-report_lines names (Invalid name fault) = invalid_line name fault
+-- the line of the trusted rule of this number, by the names of the rules of a book
+abbrev pub trust_line : List (List ℕ) → ℕ → List ℕ
+trust_line rules k = line (codes "trusts " ++ written_symbol (get_or rules k []))
+
+-- the lines of a report, over the names of the rewrites and of the rules
+abbrev pub report_lines : (names rules : List (List ℕ)) → Report → List ℕ
+report_lines names rules (Checked verdicts trusted) = flat_map rewrite_line (zip names verdicts) ++ flat_map (trust_line rules) trusted
+report_lines names rules (Invalid name fault) = invalid_line name fault
 
 abbrev pub rewrite_names : StatedProblem → List (List ℕ)
 rewrite_names p = map (λ r. r.name) p.rewrites
 
-abbrev pub report_text : StatedProblem → Report → List ℕ
-report_text p report = report_lines (rewrite_names p) report
+abbrev pub report_text : List BookRule → StatedProblem → Report → List ℕ
+report_text book p report = report_lines (rewrite_names p) (rule_names book) report
 
 abbrev pub report_status : Report → Status
 report_status (Checked verdicts trusted) = if list_all is_valid verdicts then status.AllGood else status.NotAll
 report_status (Invalid name fault) = status.NotAll
 
-abbrev pub report_outcome : StatedProblem → Report → Outcome
-report_outcome p report = record { text = report_text p report; status = report_status report }
+abbrev pub report_outcome : List BookRule → StatedProblem → Report → Outcome
+report_outcome book p report = record { text = report_text book p report; status = report_status report }
 
 -- ---- rules with their constraints
 
@@ -124,10 +128,16 @@ abbrev pub unless_file_refused : {A : Type 0} → File → Result A Refusal → 
 unless_file_refused file (Ok x) rest = rest x
 unless_file_refused file (Err r) rest = stop_outcome (Refused file r.place r.reason)
 
-abbrev pub outcome_of : List ℕ → List ℕ → Outcome
-outcome_of problem proof =
-    unless_long Problem problem (unless_file_refused Problem (problem_of problem) (λ p.
-    unless_long Proof proof (unless_file_refused Proof (checked p proof) (report_outcome p))))
+-- what follows the rules of a text, or the empty book where no file is named
+abbrev pub with_rules : Option (List ℕ) → (List BookRule → Outcome) → Outcome
+with_rules None rest = rest []
+with_rules (Some rules) rest = unless_long Rules rules (unless_file_refused Rules (rules_of rules) rest)
 
-abbrev pub outcome_of_rules : List ℕ → Outcome
-outcome_of_rules rules = unless_long Rules rules (unless_file_refused Rules (rules_of rules) types_outcome)
+abbrev pub outcome_of : (rules : Option (List ℕ)) → (problem proof : List ℕ) → Outcome
+outcome_of rules problem proof =
+    with_rules rules (λ book.
+    unless_long Problem problem (unless_file_refused Problem (problem_of problem) (λ p.
+    unless_long Proof proof (unless_file_refused Proof (checked book p proof) (report_outcome book p)))))
+
+abbrev pub outcome_of_rules : Option (List ℕ) → Outcome
+outcome_of_rules rules = with_rules rules types_outcome

@@ -5,6 +5,8 @@ ghost use Rattle.std.specs.Prelude.{◌≡◌, ◌≢◌};
 ghost use Rattle.std.specs.IoError.{error_kind};
 
 mod outcome;
+mod report;
+mod rules;
 mod run;
 #[cfg(test)]
 mod tests;

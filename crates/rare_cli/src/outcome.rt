@@ -1,16 +1,11 @@
-//! What a run writes: the line of each status, and the lines of a report.
+//! What the words ask for, and the line of each status.
 
-ghost use Rattle.std.specs.Prelude.{◌≡◌, [], ◌∷◌, ◌++◌, map, option_map, OnOk, IfOk};
-ghost use Rattle.std.specs.List.{flat_map, list_all, zip};
-ghost use Rattle.rare_cli.specs.WordForms.{form_of, is_file, rules_named};
-ghost use Rattle.rare_cli.specs.Outcomes.{file_word, stop_line, verdict_text, is_valid, rewrite_line, invalid_line, report_lines, report_status};
+ghost use Rattle.std.specs.Prelude.{◌≡◌, [], ◌∷◌, option_map, IfOk};
+ghost use Rattle.rare_cli.specs.WordForms.{asked_by, is_file, rules_named};
+ghost use Rattle.rare_cli.specs.Outcomes.{file_word, stop_line};
 ghost use Rattle.rare_cli.specs.inner.Prepared.{form_asked, name_held, stop_of_read, stop_of_fault};
 
 use rare_base::{Fault, Place, ReadError, Reason, Status, Text, Texts};
-use rare_check::{Report, Verdict};
-use rare_proof::StepFault;
-use rare_sexpr::write_symbol;
-use rare_text::Rewrite;
 use std::alloc::{AllocError, Global};
 
 /// A file of the words.
@@ -85,9 +80,10 @@ pub struct Answer {
     pub status: Status,
 }
 
-/// The names of the files of a check.
+/// The names of the files of a check, where rules need no file.
 #[derive(Clone, Copy)]
 pub struct FileNames<'a> {
+    pub rules: Option<&'a [u8]>,
     pub problem: &'a [u8],
     pub proof: &'a [u8],
 }
@@ -95,7 +91,7 @@ pub struct FileNames<'a> {
 /// What the words ask for.
 #[derive(Clone, Copy)]
 pub enum Form<'a> {
-    /// `check - PROBLEM PROOF`
+    /// `check RULES PROBLEM PROOF`, where `-` for the rules is no file.
     Check(FileNames<'a>),
     /// `types RULES`, where `-` is no file.
     Types(Option<&'a [u8]>),
@@ -120,7 +116,7 @@ fn rules_of_word(word: &[u8]) -> Option<&[u8]>
 
 // `types RULES`
 fn types_form<'a>(command: &'a Text, rules: &'a Text) -> Option<Form<'a>>
-    ensures { form_of (command.now ∷ rules.now ∷ []) ≡ option_map form_asked result }
+    ensures { asked_by (command.now ∷ rules.now ∷ []) ≡ option_map form_asked result }
 {
     if command.bytes() == b"types".as_slice() && is_file_name(rules.bytes()) {
         Some(Form::Types(rules_of_word(rules.bytes())))
@@ -129,22 +125,23 @@ fn types_form<'a>(command: &'a Text, rules: &'a Text) -> Option<Form<'a>>
     }
 }
 
-// `check - PROBLEM PROOF`
+// `check RULES PROBLEM PROOF`
 fn check_form<'a>(
     command: &'a Text,
     rules: &'a Text,
     problem: &'a Text,
     proof: &'a Text,
 ) -> Option<Form<'a>>
-    ensures { form_of (command.now ∷ rules.now ∷ problem.now ∷ proof.now ∷ [])
+    ensures { asked_by (command.now ∷ rules.now ∷ problem.now ∷ proof.now ∷ [])
         ≡ option_map form_asked result }
 {
     if command.bytes() == b"check".as_slice()
-        && rules.bytes() == b"-".as_slice()
+        && is_file_name(rules.bytes())
         && is_file_name(problem.bytes())
         && is_file_name(proof.bytes())
     {
         Some(Form::Check(FileNames {
+            rules: rules_of_word(rules.bytes()),
             problem: problem.bytes(),
             proof: proof.bytes(),
         }))
@@ -155,7 +152,7 @@ fn check_form<'a>(
 
 /// What the words ask for, or none where they are no form.
 pub fn read_form(words: &[Text]) -> Option<Form<'_>>
-    ensures { form_of words.now ≡ option_map form_asked result }
+    ensures { asked_by words.now ≡ option_map form_asked result }
 {
     match words {
         [command, rules] => types_form(command, rules),
@@ -219,85 +216,4 @@ pub fn refused(alloc: Global, file: File, place: Place, reason: Reason) -> Resul
     let word = reason.word();
     let message = format!(in alloc; "refused {name} {line}:{column} {word}\n")?;
     Text::of(alloc, message.as_bytes())
-}
-
-/// The names of the rewrites.
-pub fn names_of(alloc: Global, rewrites: &[Rewrite]) -> Result<Texts, AllocError>
-    ensures { IfOk result (λ names. names ≡ map (λ r. r.name) rewrites.now) }
-{
-    let mut names = Texts::new(alloc);
-    for rewrite in rewrites {
-        names.push(rewrite.name.copy(alloc)?)?;
-    }
-    Ok(names)
-}
-
-fn word_of_verdict(verdict: Verdict) -> &'static [u8]
-    ensures { result.now ≡ verdict_text verdict ++ 10 ∷ [] }
-{
-    match verdict {
-        Verdict::Valid => b" valid\n",
-        Verdict::Missing => b" open\n",
-    }
-}
-
-fn write_rewrite(out: &mut Text, name: &[u8], verdict: Verdict) -> Result<(), AllocError>
-    ensures { OnOk result (out.new ≡ out.old ++ rewrite_line (name.now, verdict)) }
-{
-    write_symbol(out, name)?;
-    out.append(word_of_verdict(verdict))
-}
-
-fn write_verdicts(out: &mut Text, names: &[Text], verdicts: &[Verdict]) -> Result<(), AllocError>
-    ensures { OnOk result
-        (out.new ≡ out.old ++ flat_map rewrite_line (zip names.now verdicts.now)) }
-{
-    for (name, verdict) in names.iter().zip(verdicts) {
-        write_rewrite(out, name.bytes(), *verdict)?;
-    }
-    Ok(())
-}
-
-fn write_invalid(out: &mut Text, name: &[u8], fault: StepFault) -> Result<(), AllocError>
-    ensures { OnOk result (out.new ≡ out.old ++ invalid_line name.now fault) }
-{
-    out.append(b"invalid ")?;
-    write_symbol(out, name)?;
-    out.push(b' ')?;
-    out.append(fault.word().as_bytes())?;
-    out.push(b'\n')
-}
-
-fn are_valid(verdicts: &[Verdict]) -> bool
-    ensures { result ≡ list_all is_valid verdicts.now }
-{
-    verdicts
-        .iter()
-        .all(|verdict| matches!(verdict, Verdict::Valid))
-}
-
-/// What is written of a report, over the names of the rewrites, and its status.
-pub fn answer_on(alloc: Global, names: &[Text], report: &Report) -> Result<Answer, AllocError>
-    ensures text { IfOk result (λ a. a.text ≡ report_lines names.now report.now) }
-    ensures status { IfOk result (λ a. a.status ≡ report_status report.now) }
-{
-    let mut text = Text::new(alloc);
-    match report {
-        Report::Checked { verdicts, .. } => {
-            write_verdicts(&mut text, names, verdicts.items())?;
-            let status = if are_valid(verdicts.items()) {
-                Status::AllGood
-            } else {
-                Status::NotAll
-            };
-            Ok(Answer { text, status })
-        }
-        Report::Invalid { name, fault } => {
-            write_invalid(&mut text, name.bytes(), *fault)?;
-            Ok(Answer {
-                text,
-                status: Status::NotAll,
-            })
-        }
-    }
 }

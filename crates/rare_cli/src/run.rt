@@ -1,28 +1,33 @@
 //! The run: it reads the files that the words give, has the proof checked, and writes the answer
 //! that `outcome` makes. It never writes a byte before the whole answer stands.
 
-ghost use Rattle.std.specs.Prelude.{◌≡◌, ℕ, ◌+◌, ◌-◌, ◌^◌, ◌<◌, ◌≤◌, List, [], ◌∷◌, length, None, IfOk, IfErr, OnOk};
+ghost use Rattle.std.specs.Prelude.{◌≡◌, ℕ, ◌+◌, ◌-◌, ◌^◌, ◌<◌, ◌≤◌, List, [], ◌∷◌, ◌++◌, length, None, IfOk, IfErr, OnOk};
 ghost use Rattle.rare_base.specs.Outside.{most_faults};
 ghost use Rattle.rare_base.specs.Reads.{most_file_bytes, ReadInTurn, ReadToEnd};
 ghost use Rattle.rare_sort.specs.DeclaredSorts.{nothing_declared};
 ghost use Rattle.rare_scope.specs.Names.{AreMeant};
 ghost use Rattle.rare_text.specs.Stated.{stated_problem, HaveIds};
 ghost use Rattle.rare_check.specs.Checking.{answer, Refuses};
-ghost use Rattle.rare_check.specs.Verdicts.{ValidAreTrue};
-ghost use Rattle.rare_cli.specs.WordForms.{files_in};
+ghost use Rattle.rare_meaning.specs.Interpretations.{FunctionClass};
+ghost use Rattle.rare_check.specs.Verdicts.{IsSound, ShippedHold};
+ghost use Rattle.rare_cli.specs.WordForms.{files_in, rules_files};
 ghost use Rattle.rare_cli.specs.Outcomes.{Outcome};
 ghost use Rattle.rare_cli.specs.Calls.{library, sink};
-ghost use Rattle.rare_cli.specs.Causes.{Allowed, Says, RefusesWords, AnswersTexts, EndsWith};
-ghost use Rattle.rare_cli.specs.inner.Prepared.{Delivers, outcome_in, Becomes, IsTextOf, IsProblemOf, IsReportOn, IsAnswerOn, IsChecked};
+ghost use Rattle.rare_cli.specs.Causes.{Allowed};
+ghost use Rattle.rare_cli.specs.Statuses.{Says, RefusesWords, AnswersTexts, EndsWith};
+ghost use Rattle.rare_cli.specs.inner.Prepared.{Delivers, outcome_in, Becomes, IsTextOf, IsProblemOf, IsReportOn, IsAnswerOn, IsChecked, name_held, names_asked};
 
 use crate::outcome::{
-    Answer, File, FileNames, Form, Stop, answer_on, names_of, out_of_memory, read_fault, read_form,
-    refused, too_long, usage,
+    Answer, File, FileNames, Form, Stop, out_of_memory, read_fault, read_form, refused, too_long,
+    usage,
 };
+use crate::report::{answer_on, names_of, names_of_rules};
+use crate::rules::read_rules;
 use crate::text::read_text;
 use crate::types::list_types;
 use rare_base::{Fault, Library, Sink, Status, Texts, put_whole};
 use rare_check::{Checker, Report};
+use rare_rule::Book;
 use rare_term::{Plain, Terms};
 use rare_text::{Problem, read_problem};
 use std::alloc::Global;
@@ -56,7 +61,7 @@ fn finish_with<T: Terms + Drop>(mut checker: Checker<T>, proof: &[u8]) -> Result
     requires { checker.left.fed + length proof.now ≤ 2 ^ 32 - 2 }
     ensures report { IfOk result (λ report. answer checker proof.now ≡ Ok report) }
     ensures refused { IfErr result (λ fault. Refuses fault (answer checker proof.now)) }
-    ensures valid { IfOk result (λ report. ValidAreTrue checker.problem report) }
+    ensures sound { IfOk result (IsSound checker.book checker.problem) }
 {
     match checker.feed(proof) {
         Ok(()) => checker.finish(),
@@ -64,54 +69,61 @@ fn finish_with<T: Terms + Drop>(mut checker: Checker<T>, proof: &[u8]) -> Result
     }
 }
 
-/// The report on a proof of a problem that was read into these terms.
+/// The report on a proof of a problem that was read into these terms, by the rules of a book.
 fn report_on<T: Terms + Drop>(
     alloc: Global,
     terms: T,
+    book: Book,
     problem: Problem,
     proof: &[u8],
 ) -> Result<Report, Stop>
     requires ids { HaveIds (length (T.state terms).trees) problem.rewrites }
     requires meant { AreMeant (T.state terms) problem.scope }
+    requires shipped { (c : FunctionClass) → ShippedHold c book }
     requires short { length proof.now ≤ most_file_bytes }
-    ensures { IsReportOn (stated_problem (T.state terms) problem) proof.now result }
+    ensures { IsReportOn book (stated_problem (T.state terms) problem) proof.now result }
 {
-    match finish_with(Checker::new(alloc, terms, problem), proof) {
+    match finish_with(Checker::new(alloc, terms, book, problem), proof) {
         Ok(report) => Ok(report),
         Err(fault) => Err(Stop::of_fault(File::Proof, fault)),
     }
 }
 
-/// The answer on a proof of a problem that was read into these terms.
+/// The answer on a proof of a problem that was read into these terms, by the rules of a book.
 fn judge<T: Terms + Drop>(
     alloc: Global,
     terms: T,
+    book: Book,
     problem: Problem,
     proof: &[u8],
 ) -> Result<Answer, Stop>
     requires ids { HaveIds (length (T.state terms).trees) problem.rewrites }
     requires meant { AreMeant (T.state terms) problem.scope }
+    requires shipped { (c : FunctionClass) → ShippedHold c book }
     requires short { length proof.now ≤ most_file_bytes }
-    ensures { IsAnswerOn (stated_problem (T.state terms) problem) proof.now result }
+    ensures { IsAnswerOn book (stated_problem (T.state terms) problem) proof.now result }
 {
     let names = names_of(alloc, problem.rewrites.items())?;
-    let report = report_on(alloc, terms, problem, proof)?;
-    Ok(answer_on(alloc, names.items(), &report)?)
+    let rules = names_of_rules(alloc, &book)?;
+    let report = report_on(alloc, terms, book, problem, proof)?;
+    Ok(answer_on(alloc, names.items(), rules.items(), &report)?)
 }
 
-/// The answer on the proof of a file for the problem of another.
+/// The answer on the proof of a file for the problem of another, by the rules of a third.
 fn check<L: Library>(alloc: Global, names: FileNames<'_>, files: &mut L) -> Result<Answer, Stop>
     ensures checked { IsChecked (library L.text L.faults files.old files.new)
-        (record { problem = names.entry.problem.now; proof = names.entry.proof.now }) result }
+        (names_asked names.entry) result }
     ensures texts { (w : List ℕ) → L.text files.new w ≡ L.text files.old w }
     ensures later { (w : List ℕ) → L.faults files.old w ≤ L.faults files.new w }
     ensures reads { ReadInTurn (L.reads files.old) (L.reads files.new)
-        (names.entry.problem.now ∷ names.entry.proof.now ∷ []) }
+        (rules_files (name_held names.entry.rules)
+        ++ names.entry.problem.now ∷ names.entry.proof.now ∷ []) }
 {
+    let book = read_rules(alloc, names.rules, files)?;
     let mut terms = Plain::new(alloc);
     let problem = read_problem_file(alloc, files, names.problem, &mut terms)?;
     let proof = read_text(alloc, files, names.proof, File::Proof)?;
-    judge(alloc, terms, problem, proof.bytes())
+    judge(alloc, terms, book, problem, proof.bytes())
 }
 
 /// What is to be written for these words.
@@ -176,10 +188,10 @@ fn run_all<L: Library, S: Sink>(alloc: Global, words: &Texts, files: &mut L, out
 
 /// Does what the words after the program's name say, and gives the status to end with.
 ///
-/// The words that are a form are `check - PROBLEM PROOF` and `types RULES`, where no name begins with
-/// `--`, and `-` for the rules is no file. The files are read whole, the problem first, and what is
-/// wrong with the problem comes before what is wrong with the proof. All of an answer stands before
-/// its first byte is written.
+/// The words that are a form are `check RULES PROBLEM PROOF` and `types RULES`, where no name
+/// begins with `--`, and `-` for the rules is no file. The files are read whole, in the order of
+/// the words, and what is wrong with a file comes before what is wrong with those behind it. All of
+/// an answer stands before its first byte is written.
 pub fn run<L: Library, S: Sink>(alloc: Global, words: &Texts, files: &mut L, out: &mut S) -> Status
     requires files { (w : List ℕ) → L.faults files.old w < most_faults }
     requires out { S.faults out.old < most_faults }
@@ -195,8 +207,8 @@ pub fn run<L: Library, S: Sink>(alloc: Global, words: &Texts, files: &mut L, out
     ensures texts { (w : List ℕ) → L.text files.new w ≡ L.text files.old w }
     // No count of failed reads falls.
     ensures later { (w : List ℕ) → L.faults files.old w ≤ L.faults files.new w }
-    // The reads are of the files that the words give, in turn: each byte once, of a file at most the
-    // first 2^28 + 1 bytes, and each file to its end before the next is opened.
+    // The reads are of the files that the words give, in turn: each byte once, of a file at most
+    // the first 2^28 + 1 bytes, and each file to its end before the next is opened.
     ensures reads { ReadInTurn (L.reads files.old) (L.reads files.new) (files_in words.now) }
 {
     run_all(alloc, words, files, out)

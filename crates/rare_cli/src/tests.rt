@@ -13,6 +13,7 @@ use rare_base::{
     Text, Texts,
 };
 use rare_check::{Checker, Report, Verdict};
+use rare_rule::Book;
 use rare_term::{Plain, Terms};
 use rare_text::{Problem, read_problem};
 use std::alloc::{AllocError, Global};
@@ -36,8 +37,8 @@ const PROVED: &str = "(step t1 (cl (= p p)) :rule refl)(conclude r1 t1)";
 const USAGE: &str =
     "usage: rare check RULES PROBLEM PROOF | prove [--depth=N] [--budget=N] RULES PROBLEM | rules | types RULES | gen N\n";
 
-// A run over memory: the words, the three texts, the numbers of the reads and of the puts that fail, and
-// what must come of it.
+// A run over memory: the words, the three texts, the numbers of the reads and of the puts that
+// fail, and what must come of it.
 struct Case {
     name: &'static str,
     words: &'static [&'static str],
@@ -323,6 +324,146 @@ const RULES: &[Case] = &[
     },
 ];
 
+const WITH_RULES: &[&str] = &["check", "rules", "problem", "proof"];
+
+// The rules of a user: two that hold, and one that doesn't.
+const USER_RULES: &str = "(define-rule bad ((x Int)) (+ x 1) x)\
+    (define-rule sw ((p Bool) (q Bool)) (and p q) (and q p))\
+    (define-rule not-not ((n Width) (x (BitVec n))) (bvnot (bvnot x)) x)\
+    (define-rule twice ((n Width) (x (BitVec n))) (bvneg x) (extract (- n 1) 0 (concat x x)))";
+
+// A run over these rules.
+const BY_RULES: Case = Case {
+    name: "a rule that is no law",
+    words: WITH_RULES,
+    rules: USER_RULES,
+    problem: "(declare-const y Int)(rewrite r1 (+ y 1) y)",
+    proof: "(step t1 (cl (= (+ y 1) y)) :rule rare_rewrite :args (\"bad\" y))(conclude r1 t1)",
+    written: "r1 valid\ntrusts bad\n",
+    ..ROW
+};
+
+// A run over these rules with a command that is not valid.
+const NOT_BY_RULES: Case = Case {
+    problem: "(declare-const p Bool)(declare-const q Bool)(rewrite r1 (and p q) (and q p))",
+    status: Status::NotAll,
+    number: 1,
+    ..BY_RULES
+};
+
+// Runs over proofs with steps by the rules of a file.
+const REWRITES: &[Case] = &[
+    BY_RULES,
+    Case {
+        name: "a rule whose step is not used and concludes what stands",
+        rules: "(define-rule sw ((p Bool) (q Bool)) (and p q) (and q p))",
+        problem: "(declare-const p Bool)(rewrite r1 (and p p) (and p p))",
+        proof: "(step t1 (cl (= (and p p) (and p p))) :rule refl)\
+            (step t2 (cl (= (and p p) (and p p))) :rule rare_rewrite :args (\"sw\" p p))\
+            (conclude r1 t1)",
+        written: "r1 valid\ntrusts sw\n",
+        ..BY_RULES
+    },
+    Case {
+        name: "two rules, listed in the order of their file, over a symbolic width",
+        problem: "(declare-width n 8)(declare-const x (_ BitVec n))(declare-const p Bool)\
+            (rewrite r1 (bvnot (bvnot x)) x)(rewrite r2 (and p true) (and true p))",
+        proof: "(step t1 (cl (= (bvnot (bvnot x)) x)) :rule rare_rewrite :args (\"not-not\" n x))\
+            (step t2 (cl (= (and p true) (and true p))) :rule rare_rewrite :args (\"sw\" p true))\
+            (conclude r1 t1)(conclude r2 t2)",
+        written: "r1 valid\nr2 valid\ntrusts sw\ntrusts not-not\n",
+        ..BY_RULES
+    },
+    Case {
+        name: "a constraint of the rule that doesn't follow",
+        rules: "(define-rule ext ((n Width) (j Index) (x (BitVec n)))\
+            (extract j 0 x) (extract j 0 (bvnot (bvnot x))))",
+        problem: "(declare-width n 8)(declare-const x (_ BitVec n))(rewrite r1 x x)",
+        proof: "(step t1 (cl (= x x)) :rule rare_rewrite :args (\"ext\" n n x))",
+        written: "invalid t1 Unentailed 1\n",
+        ..NOT_BY_RULES
+    },
+    Case {
+        name: "an argument of another sort",
+        problem: "(declare-const x (_ BitVec 8))(rewrite r1 x x)",
+        proof: "(step t1 (cl (= (bvnot (bvnot x)) x)) :rule rare_rewrite :args (\"not-not\" 4 x))",
+        written: "invalid t1 ArgMissorted 2\n",
+        ..NOT_BY_RULES
+    },
+    Case {
+        name: "a term beyond a limit on the right side",
+        problem: "(declare-const x (_ BitVec 85070591730234615865843651857942052864))(rewrite r1 x x)",
+        proof: "(step t1 (cl (= (bvneg x) x)) :rule rare_rewrite \
+            :args (\"twice\" 85070591730234615865843651857942052864 x))",
+        written: "invalid t1 Limit\n",
+        ..NOT_BY_RULES
+    },
+    Case {
+        name: "a rule that is not in the file",
+        proof: "(step t1 (cl (= p q)) :rule rare_rewrite :args (\"s\" zz 1.5))",
+        written: "invalid t1 NoSuchRule\n",
+        ..NOT_BY_RULES
+    },
+    Case {
+        name: "an argument too few",
+        proof: "(step t1 (cl (= p q)) :rule rare_rewrite :args (\"sw\" zz))",
+        written: "invalid t1 ArgCount\n",
+        ..NOT_BY_RULES
+    },
+    Case {
+        name: "another left side",
+        proof: "(step t1 (cl (= (and q p) (and q p))) :rule rare_rewrite :args (\"sw\" p q))",
+        written: "invalid t1 OtherLeft\n",
+        ..NOT_BY_RULES
+    },
+    Case {
+        name: "another right side",
+        proof: "(step t1 (cl (= (and p q) (and p q))) :rule rare_rewrite :args (\"sw\" p q))",
+        written: "invalid t1 OtherRight\n",
+        ..NOT_BY_RULES
+    },
+    Case {
+        name: "a premise of a rule that has none",
+        proof: "(step t1 (cl (= p p)) :rule refl)\
+            (step t2 (cl (= (and p q) (and q p))) :rule rare_rewrite \
+            :premises (t1) :args (\"sw\" p q))",
+        written: "invalid t2 PremiseCount\n",
+        ..NOT_BY_RULES
+    },
+    Case {
+        name: "a premise that is no step comes before a rule that is not in the file",
+        proof: "(step t1 (cl (= p q)) :rule rare_rewrite :premises (t0) :args (\"none\"))",
+        written: "invalid t1 NoSuchStep\n",
+        ..NOT_BY_RULES
+    },
+    Case {
+        name: "rules with no reading come before a problem with none",
+        rules: "(define-rule sw)",
+        problem: "(",
+        status: Status::BadText,
+        number: 3,
+        written: "refused rules 1:1 BadForm\n",
+        ..BY_RULES
+    },
+    Case {
+        name: "no file of rules",
+        words: &["check", "-", "problem", "proof"],
+        proof: "(step t1 (cl (= (+ y 1) y)) :rule rare_rewrite :args (\"bad\" y))",
+        written: "invalid t1 NoSuchRule\n",
+        status: Status::NotAll,
+        number: 1,
+        ..BY_RULES
+    },
+    Case {
+        name: "the read of the problem behind that of the rules fails",
+        failed_reads: &[3],
+        status: Status::ReadFault,
+        number: 4,
+        written: "read fault problem\n",
+        ..BY_RULES
+    },
+];
+
 fn named(alloc: Global, name: &str, bytes: &str) -> Result<NamedText, AllocError> {
     Ok(NamedText {
         name: Text::of(alloc, name.as_bytes())?,
@@ -379,6 +520,12 @@ fn a_run_reads_the_four_theories(rt: HostRuntime) -> Result<(), Fail> {
 #[test]
 fn a_run_lists_the_rules_of_a_file(rt: HostRuntime) -> Result<(), Fail> {
     assert_eq!(rt; first_wrong(rt.alloc(), RULES)?, None);
+    Ok(())
+}
+
+#[test]
+fn a_run_checks_steps_by_the_rules_of_a_file(rt: HostRuntime) -> Result<(), Fail> {
+    assert_eq!(rt; first_wrong(rt.alloc(), REWRITES)?, None);
     Ok(())
 }
 
@@ -441,7 +588,7 @@ fn report_in_pieces<T: Terms + Drop>(
     requires meant { AreMeant (T.state terms) problem.scope }
     requires short { length proof.now ≤ most_file_bytes }
 {
-    let mut checker = Checker::new(alloc, terms, problem);
+    let mut checker = Checker::new(alloc, terms, Book::new(alloc), problem);
     let mut at = 0;
     while at < proof.len() {
         let end = proof.len().min(at.saturating_add(piece));

@@ -1,36 +1,22 @@
 //! The list of the rules of a file with their constraints.
-ghost use Rattle.std.specs.Prelude.{◌≡◌, ◌++◌, ◌≤◌, [], ◌∷◌, IsTrue, length, IfOk, OnOk, List, ℕ, Some};
+ghost use Rattle.std.specs.Prelude.{◌≡◌, ◌++◌, ◌≤◌, IsTrue, IfOk, OnOk, List, ℕ};
 ghost use Rattle.std.specs.List.{flat_map};
-ghost use Rattle.rare_base.specs.Reads.{ReadInTurn, most_file_bytes};
+ghost use Rattle.rare_base.specs.Reads.{ReadInTurn};
 ghost use Rattle.rare_cli.specs.Calls.{library};
-ghost use Rattle.rare_cli.specs.Outcomes.{rule_line, spaced_constraint, types_outcome, types_text};
+ghost use Rattle.rare_cli.specs.Outcomes.{rule_line, spaced_constraint, types_outcome};
 ghost use Rattle.rare_cli.specs.WordForms.{rules_files};
-ghost use Rattle.rare_cli.specs.inner.Prepared.{answer_outcome, name_held, AreRulesOf, IsListed, IsTextListed};
-ghost use Rattle.rare_rule.specs.Books.{book_rule};
+ghost use Rattle.rare_cli.specs.inner.Prepared.{answer_outcome, name_held, IsListed};
 ghost use Rattle.rare_rule.specs.Rules.{IsInForm};
 ghost use Rattle.rare_rule.specs.ParamForms.{are_bounds};
 
-use crate::outcome::{Answer, File, Stop};
-use crate::text::read_text;
+use crate::outcome::{Answer, Stop};
+use crate::rules::read_rules;
 use rare_base::{Library, Status, Text};
-use rare_book::read_book;
 use rare_linear::Constraint;
 use rare_rule::{Book, Rule, Typed};
 use rare_rule_printing::print_constraint;
 use rare_sexpr::write_symbol;
 use std::alloc::{AllocError, Global};
-
-// The rules that a text states.
-fn read_rules(alloc: Global, text: &[u8]) -> Result<Book, Stop>
-    requires { length text.now ≤ most_file_bytes }
-    ensures { AreRulesOf text.now result }
-{
-    let mut book = Book::new(alloc);
-    match read_book(alloc, text, &mut book) {
-        Ok(()) => Ok(book),
-        Err(fault) => Err(Stop::of_fault(File::Rules, fault)),
-    }
-}
 
 // Appends the constraints of a rule, each behind a blank.
 fn write_constraints(
@@ -74,26 +60,6 @@ fn types_of(alloc: Global, book: &Book) -> Result<Answer, AllocError>
     })
 }
 
-// The list of the rules of a text.
-fn list_text(alloc: Global, text: &[u8]) -> Result<Answer, Stop>
-    requires { length text.now ≤ most_file_bytes }
-    ensures { IsTextListed text.now result }
-{
-    let book = read_rules(alloc, text)?;
-    Ok(types_of(alloc, &book)?)
-}
-
-// The list of the rules of a file.
-fn list_file<L: Library>(alloc: Global, name: &[u8], files: &mut L) -> Result<Answer, Stop>
-    ensures listed { IsListed (library L.text L.faults files.old files.new) (Some name.now) result }
-    ensures texts { (w : List ℕ) → L.text files.new w ≡ L.text files.old w }
-    ensures later { (w : List ℕ) → L.faults files.old w ≤ L.faults files.new w }
-    ensures reads { ReadInTurn (L.reads files.old) (L.reads files.new) (name.now ∷ []) }
-{
-    let text = read_text(alloc, files, name, File::Rules)?;
-    list_text(alloc, text.bytes())
-}
-
 /// The list of the rules of a file with their constraints; without a file it is empty.
 pub fn list_types<L: Library>(
     alloc: Global,
@@ -107,11 +73,6 @@ pub fn list_types<L: Library>(
     ensures reads { ReadInTurn (L.reads files.old) (L.reads files.new)
         (rules_files (name_held rules.entry)) }
 {
-    match rules {
-        Some(name) => list_file(alloc, name, files),
-        None => Ok(Answer {
-            text: Text::new(alloc),
-            status: Status::AllGood,
-        }),
-    }
+    let book = read_rules(alloc, rules, files)?;
+    Ok(types_of(alloc, &book)?)
 }

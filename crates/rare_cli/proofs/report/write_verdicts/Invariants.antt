@@ -3,7 +3,7 @@ use Rattle.std.specs.Iterator.Adapters.{zip_first, zip_second}
 use Rattle.std.specs.List.{flat_map, zip}
 use Rattle.std.specs.Slice.Iter.{iter_rest}
 use Rattle.rare_cli.specs.Outcomes.{rewrite_line}
-use Rattle.rare_cli.proofs.outcome.write_verdicts.Given as goal
+use Rattle.rare_cli.proofs.report.write_verdicts.Given as goal
 
 -- what is written, with the lines of the pairs that are left
 abbrev pub invariant-loop-name : goal.invariant-loop-name

@@ -6,7 +6,7 @@ use Rattle.std.specs.Slice.Iter.{iter_rest}
 use Rattle.std.specs.List.{flat_map, zip}
 use Rattle.rare_cli.specs.Outcomes.{rewrite_line}
 use Rattle.rare_check.specs.declared.report.Verdict.{Verdict}
-use Rattle.rare_cli.proofs.outcome.write_verdicts.Goals as goal
+use Rattle.rare_cli.proofs.report.write_verdicts.Goals as goal
 
 zip_none : (names : List (List ℕ)) (verdicts : List Verdict) → (names ≡ []) ⊎ (verdicts ≡ []) → flat_map rewrite_line (zip names verdicts) ≡ []
 zip_none names verdicts (inl e) = ap (λ ns. flat_map rewrite_line (zip ns verdicts)) e
