@@ -34,7 +34,8 @@ fn typed<E: Expr>(alloc: Global, e: &E, rule: Rule) -> Result<Typed, Fault>
 
 // The typed rule that a command states.
 fn read_typed<E: Expr>(alloc: Global, e: &E) -> Result<Typed, Fault>
-    ensures { Answers result (go_on (rule_at (E.tree e.now)) (λ r. typed_by (E.tree e.now) r (rule_typing r))) }
+    ensures { Answers result
+        (go_on (rule_at (E.tree e.now)) (λ r. typed_by (E.tree e.now) r (rule_typing r))) }
 {
     match read_rule(alloc, e) {
         Ok(rule) => typed(alloc, e, rule),

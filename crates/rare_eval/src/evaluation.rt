@@ -51,7 +51,8 @@ fn is_distinct_of_many<T: Terms>(terms: &T, id: TermId, head: Head) -> bool
     requires id { id.0 < length (T.state terms.now).trees }
     requires head { head ≡ head_of (tree_at (T.state terms.now).trees id.0) }
     ensures head { result ≡ true → head ≡ Head.Distinct }
-    ensures few { result ≡ false → head ≡ Head.Distinct → FewOrTruths (map (sort_of (T.state terms.now).declared.symbols)
+    ensures few { result ≡ false → head ≡ Head.Distinct →
+        FewOrTruths (map (sort_of (T.state terms.now).declared.symbols)
         (args_of (tree_at (T.state terms.now).trees id.0))) }
 {
     head == Head::Distinct
@@ -72,7 +73,8 @@ fn still_differ(differ: bool, seen: &[u128], number: u128) -> bool
 fn distinct<T: Terms>(terms: &T, id: TermId) -> Option<Value>
     requires id { id.0 < length (T.state terms.now).trees }
     requires head { head_of (tree_at (T.state terms.now).trees id.0) ≡ Head.Distinct }
-    ensures value { option_map value_item result ≡ evaluation (tree_at (T.state terms.now).trees id.0) }
+    ensures value { option_map value_item result
+        ≡ evaluation (tree_at (T.state terms.now).trees id.0) }
     ensures limited { IfSome result IsLimited }
 {
     let mut seen = [0u128; MOST_ARGS];
@@ -97,7 +99,8 @@ fn distinct<T: Terms>(terms: &T, id: TermId) -> Option<Value>
 #[tactic(auto, using(crate::proofs::CycleLemmas::deeper))]
 pub fn value<T: Terms>(terms: &T, id: TermId) -> Option<Value>
     requires { id.0 < length (T.state terms.now).trees }
-    ensures value { option_map value_item result ≡ evaluation (tree_at (T.state terms.now).trees id.0) }
+    ensures value { option_map value_item result
+        ≡ evaluation (tree_at (T.state terms.now).trees id.0) }
     ensures limited { IfSome result IsLimited }
 {
     let head = terms.head(id);

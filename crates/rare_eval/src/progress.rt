@@ -38,8 +38,10 @@ pub(crate) enum Progress {
 fn on_two(head: Head, a: Value, b: Value) -> Option<Value>
     requires first { IsLimited a }
     requires second { IsLimited b }
-    ensures value { is_on_two head ≡ true → Meet (family head) (value_item a) (value_item b) → (ns : List ℤ) →
-        option_map value_item result ≡ evaluated head (Some ns) (Some (value_item a ∷ value_item b ∷ [])) }
+    ensures value { is_on_two head ≡ true → Meet (family head) (value_item a) (value_item b) →
+        (ns : List ℤ) →
+        option_map value_item result ≡ evaluated head (Some ns)
+        (Some (value_item a ∷ value_item b ∷ [])) }
     ensures limited { IfSome result IsLimited }
 {
     match head {
@@ -57,7 +59,8 @@ fn on_two(head: Head, a: Value, b: Value) -> Option<Value>
 fn are_neighbours(head: Head, a: Value, b: Value) -> bool
     requires first { IsLimited a }
     requires second { IsLimited b }
-    ensures { is_chain head ≡ true → result ≡ neighbour_test head (value_item a).value (value_item b).value }
+    ensures { is_chain head ≡ true → result ≡ neighbour_test head (value_item a).value
+        (value_item b).value }
 {
     match head {
         Head::Implies => truth(a),
@@ -75,7 +78,8 @@ fn are_neighbours(head: Head, a: Value, b: Value) -> bool
 fn is_linked(head: Head, holds: bool, last: Value, v: Value) -> bool
     requires last { IsLimited last }
     requires value { IsLimited v }
-    ensures { is_chain head ≡ true → result ≡ (holds && link_test head (value_item last).value (value_item v).value) }
+    ensures { is_chain head ≡ true →
+        result ≡ (holds && link_test head (value_item last).value (value_item v).value) }
 {
     holds && head != Head::Distinct && are_neighbours(head, last, v)
 }
@@ -84,7 +88,8 @@ fn is_linked(head: Head, holds: bool, last: Value, v: Value) -> bool
 fn after_two(head: Head, a: Value, v: Value) -> Option<Progress>
     requires first { IsLimited a }
     requires second { IsLimited v }
-    ensures step { (ns : List ℤ) (is : List Item) → is_other head ≡ true → IsLed head ns is (value_item a) →
+    ensures step { (ns : List ℤ) (is : List Item) → is_other head ≡ true →
+        IsLed head ns is (value_item a) →
         Suits head (is ++ value_item v ∷ []) → Continues head ns (is ++ value_item v ∷ []) result }
     ensures limited { IfSome result AreLimited }
 {
@@ -98,7 +103,8 @@ fn after_two(head: Head, a: Value, v: Value) -> Option<Progress>
 pub(crate) fn next(head: Head, progress: Progress, v: Value) -> Option<Progress>
     requires progress { AreLimited progress }
     requires value { IsLimited v }
-    ensures step { (ns : List ℤ) (is : List Item) → IsAfter head ns is progress → Suits head (is ++ value_item v ∷ []) →
+    ensures step { (ns : List ℤ) (is : List Item) → IsAfter head ns is progress →
+        Suits head (is ++ value_item v ∷ []) →
         Continues head ns (is ++ value_item v ∷ []) result }
     ensures limited { IfSome result AreLimited }
 {
@@ -135,7 +141,8 @@ fn chain_truth(head: Head, holds: bool, last: Value) -> bool
 /// none.
 pub(crate) fn finish(head: Head, first: i128, second: i128, progress: Progress) -> Option<Value>
     requires { AreLimited progress }
-    ensures value { (ns : List ℤ) (is : List Item) → index 0 ns ≡ to_nat first → index 1 ns ≡ to_nat second →
+    ensures value { (ns : List ℤ) (is : List Item) → index 0 ns ≡ to_nat first →
+        index 1 ns ≡ to_nat second →
         IsAfter head ns is progress → IsFull head first second is →
         option_map value_item result ≡ evaluated head (Some ns) (Some is) }
     ensures limited { IfSome result IsLimited }

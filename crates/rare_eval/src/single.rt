@@ -21,7 +21,8 @@ use rare_sort::Head;
 
 /// A bit vector of this width, its value modulo `2^width`, where the width is from 1 to 128.
 fn literal(value: u128, width: i128) -> Option<Value>
-    ensures value { option_map value_item result ≡ limited (bits (to_nat width) (value % 2 ^ to_nat width)) }
+    ensures value { option_map value_item result
+        ≡ limited (bits (to_nat width) (value % 2 ^ to_nat width)) }
     ensures limited { IfSome result IsLimited }
 {
     if width < 1 || width > 128 {

@@ -35,7 +35,8 @@ pub(crate) fn join(a: u128, aw: u32, b: u128, bw: u32) -> Option<Value>
 pub(crate) fn slice(a: u128, width: u32, high: i128, low: i128) -> Option<Value>
     requires word { IsBitVector width a }
     ensures value { pos 0 ≤ℤ low → low ≤ℤ high → to_nat high < width →
-        option_map value_item result ≡ limited (bits (to_nat high - to_nat low + 1) (extract (to_nat high) (to_nat low) a)) }
+        option_map value_item result
+        ≡ limited (bits (to_nat high - to_nat low + 1) (extract (to_nat high) (to_nat low) a)) }
     ensures limited { IfSome result IsLimited }
 {
     if low < 0 || high < low || high >= width as i128 {
@@ -51,7 +52,8 @@ pub(crate) fn slice(a: u128, width: u32, high: i128, low: i128) -> Option<Value>
 #[tactic(auto, using(crate::proofs::SliceLemmas::wider_below))]
 pub(crate) fn zero_extension(a: u128, width: u32, by: i128) -> Option<Value>
     requires word { IsBitVector width a }
-    ensures value { pos 0 ≤ℤ by → option_map value_item result ≡ limited (bits (width + to_nat by) a) }
+    ensures value { pos 0 ≤ℤ by → option_map value_item result
+        ≡ limited (bits (width + to_nat by) a) }
     ensures limited { IfSome result IsLimited }
 {
     if by < 0 || by > (MOST_BITS - width) as i128 {
@@ -94,7 +96,8 @@ fn places(by: i128, width: u32) -> u32
 #[tactic(auto, using(crate::proofs::SliceLemmas::rotation_left, crate::proofs::SliceLemmas::left_below))]
 pub(crate) fn left_rotation(a: u128, width: u32, by: i128) -> Option<Value>
     requires word { IsBitVector width a }
-    ensures value { pos 0 ≤ℤ by → option_map value_item result ≡ Some (bits width (rotate_left width (to_nat by) a)) }
+    ensures value { pos 0 ≤ℤ by → option_map value_item result
+        ≡ Some (bits width (rotate_left width (to_nat by) a)) }
     ensures limited { IfSome result IsLimited }
 {
     if by < 0 {
@@ -110,7 +113,8 @@ pub(crate) fn left_rotation(a: u128, width: u32, by: i128) -> Option<Value>
 #[tactic(auto, using(crate::proofs::SliceLemmas::rotation_right, crate::proofs::SliceLemmas::right_below))]
 pub(crate) fn right_rotation(a: u128, width: u32, by: i128) -> Option<Value>
     requires word { IsBitVector width a }
-    ensures value { pos 0 ≤ℤ by → option_map value_item result ≡ Some (bits width (rotate_right width (to_nat by) a)) }
+    ensures value { pos 0 ≤ℤ by → option_map value_item result
+        ≡ Some (bits width (rotate_right width (to_nat by) a)) }
     ensures limited { IfSome result IsLimited }
 {
     if by < 0 {

@@ -30,7 +30,8 @@ fn made<T: Terms>(
     ensures term { IfOk result (λ id. tree_at (T.state terms.new).trees id.0 ≡
         application head indices.now (trees_at (T.state terms.old).trees args.now)) }
     ensures grows { AddsAtMost
-        (application head indices.now (trees_at (T.state terms.old).trees args.now)) (T.state terms.old) (T.state terms.new) }
+        (application head indices.now (trees_at (T.state terms.old).trees args.now))
+        (T.state terms.old) (T.state terms.new) }
     ensures err { OnErr result (T.state terms.new ≡ T.state terms.old) }
 {
     match terms.make(head, indices, args) {
@@ -43,8 +44,10 @@ fn made<T: Terms>(
 fn whole_term<T: Terms>(terms: &mut T, n: i128) -> Result<TermId, AllocError>
     requires { IsLimited (value.Whole n) }
     ensures id { IfOk result (λ id. id.0 < length (T.state terms.new).trees) }
-    ensures term { IfOk result (λ id. tree_at (T.state terms.new).trees id.0 ≡ value_term_of (value.Whole n)) }
-    ensures grows { AddsPartsOf (value_term_of (value.Whole n)) (T.state terms.old) (T.state terms.new) }
+    ensures term { IfOk result (λ id. tree_at (T.state terms.new).trees id.0
+        ≡ value_term_of (value.Whole n)) }
+    ensures grows { AddsPartsOf (value_term_of (value.Whole n)) (T.state terms.old)
+        (T.state terms.new) }
 {
     let numeral = made(terms, Head::Numeral(n.unsigned_abs()), &[], &[])?;
     if n < 0 {
@@ -66,7 +69,8 @@ pub fn value_term<T: Terms>(
 ) -> Result<TermId, AllocError>
     requires { IsLimited value }
     ensures id { IfOk result (λ id. id.0 < length (T.state terms.new).trees) }
-    ensures term { IfOk result (λ id. tree_at (T.state terms.new).trees id.0 ≡ value_term_of value) }
+    ensures term { IfOk result (λ id. tree_at (T.state terms.new).trees id.0
+        ≡ value_term_of value) }
     ensures grows { AddsPartsOf (value_term_of value) (T.state terms.old) (T.state terms.new) }
     ensures free { IsNeverRefused (value_term_of value) }
 {

@@ -14,7 +14,8 @@ use rare_sort::Head;
 
 /// The number, where it is within the limits.
 fn in_limits(exact: Option<i128>) -> Option<i128>
-    ensures value { (z : ℤ) → SomeIff exact (FitsSigned w128 z) z → option_map whole result ≡ limited (whole z) }
+    ensures value { (z : ℤ) → SomeIff exact (FitsSigned w128 z) z →
+        option_map whole result ≡ limited (whole z) }
     ensures limited { IfSome result (λ n. unsigned_abs n ≤ GREATEST_WHOLE) }
 {
     match exact {
@@ -47,7 +48,8 @@ fn product(a: i128, b: i128) -> Option<i128>
 /// The quotient whose remainder is not negative; none by 0.
 fn quotient(a: i128, b: i128) -> Option<i128>
     requires { unsigned_abs a ≤ GREATEST_WHOLE }
-    ensures value { option_map whole result ≡ (if is_zero b then None else (limited (whole (int_div_euclid a b)))) }
+    ensures value { option_map whole result
+        ≡ (if is_zero b then None else (limited (whole (int_div_euclid a b)))) }
     ensures limited { IfSome result (λ n. unsigned_abs n ≤ GREATEST_WHOLE) }
 {
     if b == 0 {
@@ -59,7 +61,8 @@ fn quotient(a: i128, b: i128) -> Option<i128>
 /// The remainder that is not negative; none by 0.
 fn remainder(a: i128, b: i128) -> Option<i128>
     requires { unsigned_abs a ≤ GREATEST_WHOLE }
-    ensures value { option_map whole result ≡ (if is_zero b then None else (limited (whole (int_rem_euclid a b)))) }
+    ensures value { option_map whole result
+        ≡ (if is_zero b then None else (limited (whole (int_rem_euclid a b)))) }
     ensures limited { IfSome result (λ n. unsigned_abs n ≤ GREATEST_WHOLE) }
 {
     if b == 0 {
@@ -74,7 +77,8 @@ pub(crate) fn on_wholes(head: Head, a: Value, b: Value) -> Option<i128>
     requires first { IsLimited a }
     requires second { IsLimited b }
     ensures value { is_on_wholes head ≡ true → (ns : List ℤ) →
-        option_map whole result ≡ evaluated head (Some ns) (Some (value_item a ∷ value_item b ∷ [])) }
+        option_map whole result ≡ evaluated head (Some ns)
+        (Some (value_item a ∷ value_item b ∷ [])) }
     ensures limited { IfSome result (λ n. unsigned_abs n ≤ GREATEST_WHOLE) }
 {
     match head {

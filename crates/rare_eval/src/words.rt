@@ -21,7 +21,8 @@ fn on_words(head: Head, a: u128, b: u128, width: u32) -> Option<u128>
     requires second { IsBitVector width b }
     ensures below { IfSome result (λ n. n < 2 ^ width) }
     ensures value { is_on_words head ≡ true → (ns : List ℤ) →
-        option_map (bits width) result ≡ Some (operator_item head ns (bits width a ∷ bits width b ∷ [])) }
+        option_map (bits width) result
+        ≡ Some (operator_item head ns (bits width a ∷ bits width b ∷ [])) }
 {
     match head {
         Head::BvAdd => Some(rare_wide::add(a, b, width)),
@@ -82,7 +83,8 @@ pub(crate) fn on_two_words(head: Head, a: Value, b: Value) -> Option<Value>
     requires first { IsLimited a }
     requires second { IsLimited b }
     ensures value { is_on_bits head ≡ true → Meet (family head) (value_item a) (value_item b) →
-        (ns : List ℤ) → option_map value_item result ≡ evaluated head (Some ns) (Some (value_item a ∷ value_item b ∷ [])) }
+        (ns : List ℤ) → option_map value_item result
+        ≡ evaluated head (Some ns) (Some (value_item a ∷ value_item b ∷ [])) }
     ensures limited { IfSome result IsLimited }
 {
     let Value::Bits { width, value: a } = a else {

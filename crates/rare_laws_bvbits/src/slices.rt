@@ -48,14 +48,16 @@ pub fn bv_extract_extract(alloc: Global) -> Result<Typed, AllocError>
 
 #[tactic(auto, using(crate::proofs::BvSliceForms::bv_extract_concat_low_form, crate::proofs::BvSliceTypes::bv_extract_concat_low_types))]
 pub fn bv_extract_concat_low(alloc: Global) -> Result<Typed, AllocError>
-    ensures { IfOk result (λ t. t ≡ constrained bv_extract_concat_low bv_extract_concat_low_constraints) }
+    ensures { IfOk result (λ t. t ≡ constrained bv_extract_concat_low
+        bv_extract_concat_low_constraints) }
 {
     typed(alloc, &BV_EXTRACT_CONCAT_LOW)
 }
 
 #[tactic(auto, using(crate::proofs::BvSliceForms::bv_extract_concat_high_form, crate::proofs::BvSliceTypes::bv_extract_concat_high_types))]
 pub fn bv_extract_concat_high(alloc: Global) -> Result<Typed, AllocError>
-    ensures { IfOk result (λ t. t ≡ constrained bv_extract_concat_high bv_extract_concat_high_constraints) }
+    ensures { IfOk result (λ t. t ≡ constrained bv_extract_concat_high
+        bv_extract_concat_high_constraints) }
 {
     typed(alloc, &BV_EXTRACT_CONCAT_HIGH)
 }

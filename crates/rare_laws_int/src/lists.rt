@@ -44,7 +44,8 @@ fn add_second(alloc: Global, all: &mut TypedRules) -> Result<(), AllocError>
 
 fn add_third(alloc: Global, all: &mut TypedRules) -> Result<(), AllocError>
     ensures { OnOk result (all.new ≡ all.old ++ map unconstrained (
-        int_div_one ∷ int_mod_one ∷ int_mod_small ∷ int_div_self ∷ int_mod_mod ∷ int_abs_elim ∷ [])) }
+        int_div_one ∷ int_mod_one ∷ int_mod_small ∷ int_div_self ∷ int_mod_mod ∷ int_abs_elim
+        ∷ [])) }
 {
     all.push(int_div_one(alloc)?)?;
     all.push(int_mod_one(alloc)?)?;

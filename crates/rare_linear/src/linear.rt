@@ -100,7 +100,8 @@ impl Linear {
         ensures value { IfOk result (λ l. (at : ℕ → ℤ) →
             linear_value at l ≡ linear_value at self.now +ℤ linear_value at other.now) }
         ensures within { OnOk result (IsWithin (add self.now other.now)) }
-        ensures too_large { result ≡ Err LinearError.TooLarge → ¬ IsWithin (add self.now other.now) }
+        ensures too_large { result ≡ Err LinearError.TooLarge →
+            ¬ IsWithin (add self.now other.now) }
     {
         self.plus_multiple(1, other)
     }
@@ -110,7 +111,8 @@ impl Linear {
     /// `TooLarge` says that its constant or a coefficient is no `i128`.
     pub fn scale(&self, k: i128) -> Result<Linear, LinearError>
         ensures multiple { IfOk result (λ l. l ≡ scale k self.now) }
-        ensures value { IfOk result (λ l. (at : ℕ → ℤ) → linear_value at l ≡ k *ℤ linear_value at self.now) }
+        ensures value { IfOk result (λ l. (at : ℕ → ℤ) →
+            linear_value at l ≡ k *ℤ linear_value at self.now) }
         ensures within { OnOk result (IsWithin (scale k self.now)) }
         ensures too_large { result ≡ Err LinearError.TooLarge → ¬ IsWithin (scale k self.now) }
     {
@@ -123,7 +125,8 @@ impl Linear {
     pub fn minus(&self, other: &Linear) -> Result<Linear, LinearError>
         ensures difference { IfOk result (λ l. l ≡ minus self.now other.now) }
         ensures within { OnOk result (IsWithin (minus self.now other.now)) }
-        ensures too_large { result ≡ Err LinearError.TooLarge → ¬ IsWithin (minus self.now other.now) }
+        ensures too_large { result ≡ Err LinearError.TooLarge →
+            ¬ IsWithin (minus self.now other.now) }
     {
         self.plus_multiple(-1, other)
     }
@@ -136,9 +139,11 @@ impl Linear {
         requires { NamesBelow (length values.now) self.now.parts }
         ensures substituted { IfOk result (λ l. l ≡ substitute (value_at values.now) self.now) }
         ensures value { IfOk result (λ l. (at : ℕ → ℤ) →
-            linear_value at l ≡ linear_value (λ k. linear_value at (value_at values.now k)) self.now) }
+            linear_value at l ≡ linear_value (λ k. linear_value at (value_at values.now k))
+            self.now) }
         ensures within { OnOk result (PartialSumsFit (value_at values.now) self.now) }
-        ensures too_large { result ≡ Err LinearError.TooLarge → ¬ PartialSumsFit (value_at values.now) self.now }
+        ensures too_large { result ≡ Err LinearError.TooLarge →
+            ¬ PartialSumsFit (value_at values.now) self.now }
     {
         self.sum_of_products(values)
     }
@@ -148,7 +153,8 @@ impl Linear {
         requires { NamesBelow (length values.now) self.now.parts }
         ensures sum { IfOk result (λ l. l ≡ substitute (value_at values.now) self.now) }
         ensures within { OnOk result (PartialSumsFit (value_at values.now) self.now) }
-        ensures too_large { result ≡ Err LinearError.TooLarge → ¬ PartialSumsFit (value_at values.now) self.now }
+        ensures too_large { result ≡ Err LinearError.TooLarge →
+            ¬ PartialSumsFit (value_at values.now) self.now }
     {
         let mut sum = Linear::constant(*self.parts.allocator(), self.constant);
         let parts = self.parts();
@@ -162,7 +168,8 @@ impl Linear {
     fn plus_multiple(&self, k: i128, other: &Linear) -> Result<Linear, LinearError>
         ensures sum { IfOk result (λ l. l ≡ add self.now (scale k other.now)) }
         ensures within { OnOk result (IsWithin (add self.now (scale k other.now))) }
-        ensures too_large { result ≡ Err LinearError.TooLarge → ¬ IsWithin (add self.now (scale k other.now)) }
+        ensures too_large { result ≡ Err LinearError.TooLarge →
+            ¬ IsWithin (add self.now (scale k other.now)) }
     {
         let Some(constant) = merge::add_product(self.constant, k, other.constant) else {
             return Err(LinearError::TooLarge);

@@ -89,7 +89,8 @@ fn bits_literal<E: Expr>(
 /// below `2^W` and `2^128`; and want of memory.
 #[tactic(auto, using(crate::proofs::LiteralSteps::other_decimal, crate::proofs::LiteralSteps::value_fails, crate::proofs::LiteralSteps::width_fails, crate::proofs::LiteralSteps::decimal_read))]
 pub fn read_decimal_literal<E: Expr>(alloc: Global, e: &E) -> Result<ReadTerm, Fault>
-    ensures read { Answers (only_tree result) (decimal_literal (E.tree e.now) (items_of (E.tree e.now))) }
+    ensures read { Answers (only_tree result)
+        (decimal_literal (E.tree e.now) (items_of (E.tree e.now))) }
     ensures measured { IfOk result IsMeasured }
 {
     if e.len() != 3 {
@@ -245,7 +246,8 @@ fn read_numeral<E: Expr>(alloc: Global, e: &E) -> Result<ReadTerm, Fault>
 /// literal of a value above `2^128 - 1`, `BadForm` at another atom, and want of memory.
 pub fn read_atom<E: Expr>(alloc: Global, e: &E, names: &RuleNames) -> Result<ReadTerm, Fault>
     requires { is_list_kind (kind_of (E.tree e.now)) ≡ false }
-    ensures read { Answers (only_tree result) (atom_by names.now (E.tree e.now) (kind_of (E.tree e.now))) }
+    ensures read { Answers (only_tree result)
+        (atom_by names.now (E.tree e.now) (kind_of (E.tree e.now))) }
     ensures measured { IfOk result IsMeasured }
 {
     let digits = e.text();

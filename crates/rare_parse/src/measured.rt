@@ -108,7 +108,8 @@ pub fn application<E: Expr>(
     arguments: Arguments,
 ) -> Result<ReadTerm, Fault>
     requires { AreCounted arguments }
-    ensures read { Answers (only_tree result) (application_at (E.tree e.now) operator arguments.trees) }
+    ensures read { Answers (only_tree result)
+        (application_at (E.tree e.now) operator arguments.trees) }
     ensures measured { IfOk result IsMeasured }
 {
     if is_beyond(&arguments) {

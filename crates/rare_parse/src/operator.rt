@@ -81,7 +81,8 @@ pub fn read_operator<E: Expr>(
     names: &RuleNames,
 ) -> Result<Applied, Fault>
     requires { 1 ≤ length (items_of (E.tree e.now)) }
-    ensures read { AnswersPlaced result (text.operator_at names.now (E.tree e.now) (E.tree head.now)) }
+    ensures read { AnswersPlaced result
+        (text.operator_at names.now (E.tree e.now) (E.tree head.now)) }
     ensures within { IfOk result (λ a. a.first ≤ length (items_of (E.tree e.now))) }
 {
     match head.kind() {

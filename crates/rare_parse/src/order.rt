@@ -120,7 +120,8 @@ fn follow_occurrence(
     k: u32,
     found: &mut Numbers,
 ) -> Result<bool, AllocError>
-    ensures { IfOk result (Follows (occurrence params.now under_concat k (kind_at params.now k)) found.old found.new) }
+    ensures { IfOk result (Follows (occurrence params.now under_concat k (kind_at params.now k))
+        found.old found.new) }
 {
     match kind_of(params, k) {
         Some(ParamKind::Term(sort)) => {
@@ -150,7 +151,8 @@ fn follow_linears(
     indices: &[Linear],
     found: &mut Numbers,
 ) -> Result<bool, AllocError>
-    ensures { IfOk result (Follows (flat_map (λ e. mention params.now e ∷ []) indices.now) found.old found.new) }
+    ensures { IfOk result (Follows (flat_map (λ e. mention params.now e ∷ []) indices.now) found.old
+        found.new) }
 {
     for index in indices {
         if !follow_linear(params, index, found)? {
@@ -167,7 +169,8 @@ fn follow_indices(
     indices: &[Linear],
     found: &mut Numbers,
 ) -> Result<bool, AllocError>
-    ensures { IfOk result (Follows (index_mentions params.now head indices.now) found.old found.new) }
+    ensures { IfOk result (Follows (index_mentions params.now head indices.now) found.old
+        found.new) }
 {
     match head {
         Head::Literal => match indices {
@@ -197,7 +200,8 @@ fn follow_node(
     tree: &Tree,
     found: &mut Numbers,
 ) -> Result<bool, AllocError>
-    ensures { IfOk result (Follows (node_mentions params.now (root_node parent tree.now)) found.old found.new) }
+    ensures { IfOk result (Follows (node_mentions params.now (root_node parent tree.now)) found.old
+        found.new) }
 {
     match tree.head {
         Head::Param(k) => follow_occurrence(params, is_concat(parent), k, found),
@@ -212,7 +216,8 @@ fn follow_tree(
     tree: &Tree,
     found: &mut Numbers,
 ) -> Result<bool, AllocError>
-    ensures { IfOk result (Follows (flat_map (node_mentions params.now) ((walk tree.now).nodes parent)) found.old found.new) }
+    ensures { IfOk result (Follows
+        (flat_map (node_mentions params.now) ((walk tree.now).nodes parent)) found.old found.new) }
 {
     for arg in tree.args.items() {
         if !follow_tree(params, Some(tree.head), arg, found)? {

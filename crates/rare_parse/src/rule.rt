@@ -84,7 +84,8 @@ fn read_two<E: Expr>(
     names: &RuleNames,
 ) -> Result<ReadSides, Fault>
     requires { from < length (items_of (E.tree e.now)) }
-    ensures read { AnswersTwo result (two_sides names.now (E.tree e.now) (drop from (items_of (E.tree e.now)))) }
+    ensures read { AnswersTwo result
+        (two_sides names.now (E.tree e.now) (drop from (items_of (E.tree e.now)))) }
     ensures measured { IfOk result AreMeasured }
 {
     let left = match read_term(alloc, e.item(from), names) {
@@ -113,7 +114,8 @@ fn read_sides<E: Expr>(
     names: &RuleNames,
 ) -> Result<ReadSides, Fault>
     requires { from ≤ length (items_of (E.tree e.now)) }
-    ensures read { AnswersTwo result (sides_at names.now (E.tree e.now) (drop from (items_of (E.tree e.now)))) }
+    ensures read { AnswersTwo result
+        (sides_at names.now (E.tree e.now) (drop from (items_of (E.tree e.now)))) }
     ensures measured { IfOk result AreMeasured }
 {
     if from == e.len() {

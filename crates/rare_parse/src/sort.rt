@@ -135,7 +135,8 @@ fn array_sort<E: Expr>(
 ) -> Result<NestedSort, Fault>
     requires keys { IsNested keys }
     requires entries { IsNested entries }
-    ensures read { Answers (only_sort result) (shallow (E.tree e.now) (Array keys.sort entries.sort)) }
+    ensures read { Answers (only_sort result)
+        (shallow (E.tree e.now) (Array keys.sort entries.sort)) }
     ensures nested { IfOk result IsNested }
 {
     let nesting = 1 + keys.nesting.max(entries.nesting);

@@ -101,7 +101,8 @@ impl Book {
     pub fn add(&mut self, rule: Typed, shipped: bool) -> Result<(), BookError>
         ensures ok { OnOk result (self.new ≡ self.old ++ book_rule rule shipped ∷ []) }
         ensures err { OnErr result (self.new ≡ self.old) }
-        ensures duplicate { (result ≡ Err DuplicateName) ↔ IsTrue (is_name_in rule.rule.name self.old) }
+        ensures duplicate { (result ≡ Err DuplicateName)
+            ↔ IsTrue (is_name_in rule.rule.name self.old) }
     {
         if self.names.contains(rule.rule().name.bytes()) {
             return Err(BookError::DuplicateName);

@@ -22,7 +22,8 @@ fn truth(alloc: Global) -> Tree
 
 /// `(define-rule NAME () true true)`
 fn trivial(alloc: Global, name: &[u8]) -> Result<Rule, AllocError>
-    ensures { IfOk result (λ r. r ≡ plain_rule name.now [] [] (apply head.True []) (apply head.True [])) }
+    ensures { IfOk result (λ r. r ≡ plain_rule name.now [] [] (apply head.True [])
+        (apply head.True [])) }
 {
     Ok(Rule {
         name: Text::of(alloc, name)?,

@@ -39,7 +39,8 @@ pub fn print_constraint(
     requires form { IsInForm rule.now }
     requires names { IsTrue (are_numbers rule.now.params constraint.now.floor.parts) }
     ensures ok { OnOk result (out.new ≡ out.old ++ constraint_text rule.now.params constraint.now) }
-    ensures err { OnErr result (IsCut out.old (constraint_text rule.now.params constraint.now) out.new) }
+    ensures err { OnErr result
+        (IsCut out.old (constraint_text rule.now.params constraint.now) out.new) }
 {
     write_constraint(rule.params.items(), constraint, out)
 }

@@ -61,7 +61,8 @@ fn one_floor<E: Expr>(
     a: &Linear,
     b: &Linear,
 ) -> Result<Linears, Fault>
-    ensures { Answers result (go_on (floor (E.tree e.now) a.now b.now relation) (λ d. Ok (d ∷ []))) }
+    ensures { Answers result
+        (go_on (floor (E.tree e.now) a.now b.now relation) (λ d. Ok (d ∷ []))) }
 {
     let floor = floor_of(alloc, e, relation, a, b)?;
     let mut floors = Linears::new(alloc);

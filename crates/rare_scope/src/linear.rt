@@ -77,7 +77,8 @@ fn multiple<E: Expr>(e: &E, k: i128, l: &Linear) -> Result<Linear, Fault>
 
 // The product, where one factor has no name.
 fn product<E: Expr>(e: &E, l: &Linear, m: &Linear) -> Result<Linear, Fault>
-    ensures { Answers result (times_by (E.tree e.now) l.now m.now (number_in l.now) (number_in m.now)) }
+    ensures { Answers result
+        (times_by (E.tree e.now) l.now m.now (number_in l.now) (number_in m.now)) }
 {
     match number_of(l) {
         Some(k) => multiple(e, k, m),
@@ -120,7 +121,8 @@ fn form<E: Expr>(e: &E) -> Result<Sign, Fault>
 
 fn read_atom<E: Expr, W: WidthNames>(alloc: Global, e: &E, names: &W) -> Result<Linear, Fault>
     requires { is_list_kind (kind_of (E.tree e.now)) ≡ false }
-    ensures { Answers result (linear_by (W.names names.now) (E.tree e.now) (kind_of (E.tree e.now)) []) }
+    ensures { Answers result
+        (linear_by (W.names names.now) (E.tree e.now) (kind_of (E.tree e.now)) []) }
 {
     match e.kind() {
         Kind::Numeral => match small_numeral(e.text()) {

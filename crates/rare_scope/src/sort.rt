@@ -55,7 +55,8 @@ fn sort_number(scope: &Scope, name: &[u8]) -> Option<u32>
 #[tactic(auto, using(crate::proofs::SortSteps::numbered_sort, crate::proofs::SortSteps::unknown_sort))]
 fn read_symbol<T: Terms, E: Expr>(e: &E, scope: &Scope, terms: &T) -> Result<NestedSort, Fault>
     requires { AreMeant (T.state terms.now) scope.now }
-    ensures read { Answers (only_sort result) (symbol_sort (names_of (T.state terms.now).trees scope.now) (E.tree e.now)) }
+    ensures read { Answers (only_sort result)
+        (symbol_sort (names_of (T.state terms.now).trees scope.now) (E.tree e.now)) }
     ensures nested { IfOk result (IsNestedSort (T.state terms.now).declared) }
 {
     let text = e.text();
@@ -75,7 +76,8 @@ fn read_symbol<T: Terms, E: Expr>(e: &E, scope: &Scope, terms: &T) -> Result<Nes
 #[tactic(auto, using(crate::proofs::SortSteps::wide_follows, crate::proofs::SortSteps::less_one_named))]
 fn is_width<T: Terms>(alloc: Global, width: &Linear, terms: &T) -> Result<bool, Fault>
     requires { NamesBelow (widths (T.state terms.now).declared) width.now.parts }
-    ensures value { IfOk result (λ b. b ≡ follows (T.state terms.now).declared (less_one width.now)) }
+    ensures value { IfOk result
+        (λ b. b ≡ follows (T.state terms.now).declared (less_one width.now)) }
     ensures err { OnErr result (result ≡ Err Fault.Memory) }
 {
     match width.minus(&Linear::constant(alloc, 1)) {
@@ -94,7 +96,8 @@ fn bit_vectors_of<T: Terms, E: Expr>(
     terms: &T,
 ) -> Result<NestedSort, Fault>
     requires { NamesBelow (widths (T.state terms.now).declared) width.parts }
-    ensures read { Answers (only_sort result) (bit_vectors (T.state terms.now).declared (E.tree e.now) width) }
+    ensures read { Answers (only_sort result)
+        (bit_vectors (T.state terms.now).declared (E.tree e.now) width) }
     ensures nested { IfOk result (IsNestedSort (T.state terms.now).declared) }
 {
     if is_width(alloc, &width, terms)? {
@@ -112,7 +115,8 @@ fn read_bit_vectors<T: Terms, E: Expr>(
     terms: &T,
 ) -> Result<NestedSort, Fault>
     requires { AreMeant (T.state terms.now) scope.now }
-    ensures read { Answers (only_sort result) (go_on (linear_at (widths_held scope.now) (E.tree width.now))
+    ensures read { Answers (only_sort result)
+        (go_on (linear_at (widths_held scope.now) (E.tree width.now))
         (λ w. bit_vectors (T.state terms.now).declared (E.tree e.now) w)) }
     ensures nested { IfOk result (IsNestedSort (T.state terms.now).declared) }
 {
@@ -154,7 +158,8 @@ fn array_sort<T: Terms, E: Expr>(
 ) -> Result<NestedSort, Fault>
     requires keys { IsNestedSort (T.state terms.now).declared keys }
     requires entries { IsNestedSort (T.state terms.now).declared entries }
-    ensures read { Answers (only_sort result) (shallow (E.tree e.now) (Array keys.sort entries.sort)) }
+    ensures read { Answers (only_sort result)
+        (shallow (E.tree e.now) (Array keys.sort entries.sort)) }
     ensures nested { IfOk result (IsNestedSort (T.state terms.now).declared) }
 {
     let nesting = 1 + keys.nesting.max(entries.nesting);
@@ -182,7 +187,9 @@ fn read<T: Terms, E: Expr>(
     terms: &T,
 ) -> Result<NestedSort, Fault>
     requires { AreMeant (T.state terms.now) scope.now }
-    ensures read { Answers (only_sort result) (sort_at (T.state terms.now).declared (names_of (T.state terms.now).trees scope.now) (E.tree e.now)) }
+    ensures read { Answers (only_sort result)
+        (sort_at (T.state terms.now).declared (names_of (T.state terms.now).trees scope.now)
+        (E.tree e.now)) }
     ensures nested { IfOk result (IsNestedSort (T.state terms.now).declared) }
 {
     if is_symbol(e) {
@@ -216,7 +223,8 @@ pub fn read_sort<T: Terms, E: Expr>(
 ) -> Result<Sort, Fault>
     requires { AreMeant (T.state terms.now) scope.now }
     ensures read { Answers result
-        (sort_at (T.state terms.now).declared (names_of (T.state terms.now).trees scope.now) (E.tree e.now)) }
+        (sort_at (T.state terms.now).declared (names_of (T.state terms.now).trees scope.now)
+        (E.tree e.now)) }
     ensures declared { IfOk result (IsDeclaredSort (T.state terms.now).declared) }
 {
     Ok(read(alloc, e, scope, terms)?.sort)

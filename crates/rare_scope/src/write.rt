@@ -43,8 +43,10 @@ fn write_part<'x, N: WrittenNames>(
     names: &'x N,
 ) -> Result<(), AllocError>
     requires { part.now.0 < N.count names.now }
-    ensures ok { OnOk result (out.new ≡ out.old ++ (lead.now ++ part_text_by (N.text names.now) part.now)) }
-    ensures err { OnErr result (IsCut out.old (lead.now ++ part_text_by (N.text names.now) part.now) out.new) }
+    ensures ok { OnOk result
+        (out.new ≡ out.old ++ (lead.now ++ part_text_by (N.text names.now) part.now)) }
+    ensures err { OnErr result
+        (IsCut out.old (lead.now ++ part_text_by (N.text names.now) part.now) out.new) }
 {
     let (k, coefficient) = part;
     let name = names.piece(*k);
@@ -109,7 +111,8 @@ pub fn write_linear_over<N: WrittenNames>(
 ) -> Result<(), AllocError>
     requires { NamesBelow (N.count names.now) linear.now.parts }
     ensures ok { OnOk result (out.new ≡ out.old ++ linear_text_by (N.text names.now) linear.now) }
-    ensures err { OnErr result (IsCut out.old (linear_text_by (N.text names.now) linear.now) out.new) }
+    ensures err { OnErr result
+        (IsCut out.old (linear_text_by (N.text names.now) linear.now) out.new) }
 {
     let parts = linear.parts();
     if parts.len() == 0 {
@@ -130,7 +133,8 @@ pub fn write_linear_over<N: WrittenNames>(
 pub fn write_linear(linear: &Linear, scope: &Scope, out: &mut Text) -> Result<(), AllocError>
     requires { NamesBelow (length (width_names scope.now)) linear.now.parts }
     ensures ok { OnOk result (out.new ≡ out.old ++ linear_text (width_names scope.now) linear.now) }
-    ensures err { OnErr result (IsCut out.old (linear_text (width_names scope.now) linear.now) out.new) }
+    ensures err { OnErr result
+        (IsCut out.old (linear_text (width_names scope.now) linear.now) out.new) }
 {
     write_linear_over(linear, scope, out)
 }

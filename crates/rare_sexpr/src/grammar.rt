@@ -13,5 +13,6 @@ ghost use Rattle.rare_sexpr.specs.Readings.{commands_from};
 /// `one`: what is spelled so is read, so a text has one reading.
 pub fn texts_are_spelled()
     ensures read { (p : Place) (bytes : List ℕ) → AreCommands p bytes (commands_from p bytes) }
-    ensures one { (p : Place) (bytes : List ℕ) (c : Commands) → AreCommands p bytes c → c ≡ commands_from p bytes }
+    ensures one { (p : Place) (bytes : List ℕ) (c : Commands) → AreCommands p bytes c →
+        c ≡ commands_from p bytes }
 {}

@@ -85,7 +85,11 @@ impl Reader {
     pub fn feed(&mut self, bytes: &[u8]) -> Result<(), AllocError>
         requires untold { self.old.ended ≡ false }
         requires short { self.old.fed + length bytes.now ≤ 2 ^ 32 - 2 }
-        ensures ok { OnOk result (self.new ≡ record self.old { rest = self.old.rest ++ bytes.now; fed = self.old.fed + length bytes.now }) }
+        ensures ok { OnOk result
+            (self.new ≡ record self.old {
+              rest = self.old.rest ++ bytes.now;
+              fed = self.old.fed + length bytes.now;
+            }) }
         ensures err { OnErr result (self.new ≡ self.old) }
     {
         if self.start > self.bytes.len() / 2 {
@@ -96,7 +100,11 @@ impl Reader {
 
     fn add(&mut self, bytes: &[u8]) -> Result<(), AllocError>
         requires { self.old.fed + length bytes.now ≤ 2 ^ 32 - 2 }
-        ensures ok { OnOk result (self.new ≡ record self.old { rest = self.old.rest ++ bytes.now; fed = self.old.fed + length bytes.now }) }
+        ensures ok { OnOk result
+            (self.new ≡ record self.old {
+              rest = self.old.rest ++ bytes.now;
+              fed = self.old.fed + length bytes.now;
+            }) }
         ensures err { OnErr result (self.new ≡ self.old) }
     {
         self.bytes.extend_from_slice(bytes)?;

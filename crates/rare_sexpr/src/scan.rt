@@ -215,7 +215,8 @@ fn run_end(word: &[u8], at: usize, part: Part) -> usize
     requires { at ≤ length word.now }
     ensures from { at ≤ result }
     ensures within { result ≤ length word.now }
-    ensures same { (more : List ℕ) → scan part at (drop at word.now ++ more) ≡ scan part result (drop result word.now ++ more) }
+    ensures same { (more : List ℕ) → scan part at (drop at word.now ++ more)
+        ≡ scan part result (drop result word.now ++ more) }
 {
     match part {
         Part::Symbol => symbol_run(word, at),

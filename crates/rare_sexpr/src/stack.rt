@@ -35,7 +35,11 @@ impl Stack {
 
     /// Opens a list. Want of memory leaves any stack.
     pub fn open(&mut self, place: Place) -> Result<(), AllocError>
-        ensures { OnOk result (self.new ≡ record self.old { opened = self.old.opened ++ (record { place = place; before = length self.old.items }) ∷ [] }) }
+        ensures { OnOk result (self.new
+            ≡ record self.old {
+              opened = self.old.opened
+                  ++ (record { place = place; before = length self.old.items }) ∷ [];
+            }) }
     {
         let before = self.items.len();
         self.opened.push(Opened { place, before })

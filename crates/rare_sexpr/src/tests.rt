@@ -56,7 +56,8 @@ fn walk<E: Expr>(e: &E) -> usize {
 fn show_next(alloc: Global, out: &mut Text, reader: &mut Reader) -> Result<bool, AllocError>
     ensures fed { reader.new.fed ≡ reader.old.fed }
     ensures ended { reader.new.ended ≡ reader.old.ended }
-    ensures less { IfOk result (λ more. more ≡ true → length reader.new.rest < length reader.old.rest) }
+    ensures less { IfOk result (λ more. more ≡ true →
+        length reader.new.rest < length reader.old.rest) }
 {
     match reader.next_command() {
         Ok(Next::Command(e)) => {

@@ -1,20 +1,19 @@
-//! The rules of sorts of operators without indices.
-ghost use Rattle.std.specs.Prelude.{◌≡◌, ◌&&◌, ◌<◌, length, IfOk, IfSome, IsTrue, List, Some, [], ◌∷◌, slice_get, nat_eq, zip};
+//! The rules of sorts of operators without indices, but for those of arrays and of `concat`.
+ghost use Rattle.std.specs.Prelude.{◌≡◌, ◌&&◌, ◌<◌, length, IfOk, IsTrue, List, Some, [], ◌∷◌, slice_get, nat_eq, zip};
 ghost use Rattle.std.specs.Option.{option_map};
-ghost use Rattle.rare_linear.specs.Linears.{NamesBelow};
 ghost use Rattle.rare_sort.specs.Ids.{AreIds, sort_at, sorts_at};
-ghost use Rattle.rare_sort.specs.SortRules.{array_parts, basic_sort, counts, each_is, outcome_sort, width};
-ghost use Rattle.rare_sort.specs.DeclaredSorts.{widths, is_sort, AreDeclared, AreSorts, IsSymbol};
+ghost use Rattle.rare_sort.specs.SortRules.{basic_sort, counts, each_is, outcome_sort, width};
+ghost use Rattle.rare_sort.specs.DeclaredSorts.{is_sort, AreDeclared, AreSorts, IsSymbol};
 ghost use Rattle.rare_sort.specs.Rulings.{all_one, ruling_of_family};
-ghost use Rattle.rare_sort.specs.inner.Within.{all_words, sum_with, summed, where_has, zero_width};
+ghost use Rattle.rare_sort.specs.inner.Within.{where_has};
 
+use crate::arrays::{select, store};
 use crate::declarations::Declarations;
 use crate::family::{Basic, Count, Family, Outcome};
-use crate::forming::formed;
+use crate::joins::concat;
 use crate::ruling::Ruling;
 use crate::sort::{Signature, Sort, is_same_sort};
 use crate::tree::TermId;
-use crate::widths::sum_within;
 use rare_linear::Linear;
 use std::alloc::{AllocError, Global};
 
@@ -65,18 +64,6 @@ pub(crate) fn width_of(sort: &Sort) -> Option<&Linear>
     }
 }
 
-/// The sorts of an array's indices and of its entries.
-fn parts_of_array<'a>(declared: &Declarations, sort: &'a Sort) -> Option<(&'a Sort, &'a Sort)>
-    requires { IsTrue (is_sort declared.now sort.now) }
-    ensures parts { option_map (λ p. (p.0.now, p.1.now)) result ≡ array_parts sort.now }
-    ensures entries { IfSome result (λ p. IsTrue (is_sort declared.now p.1.now)) }
-{
-    match sort {
-        Sort::Array(keys, entries) => Some((keys.get(), entries.get())),
-        _ => None,
-    }
-}
-
 /// The sort, where the test is met.
 fn has_where(met: bool, sort: Sort) -> Ruling
     ensures { result ≡ where_has met sort }
@@ -85,7 +72,7 @@ fn has_where(met: bool, sort: Sort) -> Ruling
 }
 
 /// A copy of the sort, where the test is met.
-fn copy_where(alloc: Global, met: bool, sort: &Sort) -> Result<Ruling, AllocError>
+pub(crate) fn copy_where(alloc: Global, met: bool, sort: &Sort) -> Result<Ruling, AllocError>
     ensures { IfOk result (λ r. r ≡ where_has met sort.now) }
 {
     if met {
@@ -104,7 +91,8 @@ fn fixed(
     args: &[TermId],
 ) -> Ruling
     requires { AreIds (length sorts.now) args.now }
-    ensures { result ≡ ruling_of_family declared.now (Family.Fixed count of gives) [] (sorts_at sorts.now args.now) }
+    ensures { result ≡ ruling_of_family declared.now (Family.Fixed count of gives) []
+        (sorts_at sorts.now args.now) }
 {
     let met = is_count(count, args.len()) && are_all(&sort_of_basic(of), sorts, args);
     has_where(met, sort_of_basic(gives))
@@ -134,7 +122,8 @@ fn choice_of(
     right: &Sort,
 ) -> Result<Ruling, AllocError>
     requires { IsTrue (is_sort declared.now left.now) }
-    ensures { IfOk result (λ r. r ≡ ruling_of_family declared.now Family.Choice [] (test.now ∷ left.now ∷ right.now ∷ [])) }
+    ensures { IfOk result (λ r. r ≡ ruling_of_family declared.now Family.Choice []
+        (test.now ∷ left.now ∷ right.now ∷ [])) }
 {
     let met = is_same_sort(test, &Sort::Bool) && is_same_sort(right, left);
     copy_where(alloc, met, left)
@@ -148,7 +137,8 @@ fn choice(
 ) -> Result<Ruling, AllocError>
     requires sorts { AreSorts declared.now sorts.now }
     requires ids { AreIds (length sorts.now) args.now }
-    ensures { IfOk result (λ r. r ≡ ruling_of_family declared.now Family.Choice [] (sorts_at sorts.now args.now)) }
+    ensures { IfOk result (λ r. r ≡ ruling_of_family declared.now Family.Choice []
+        (sorts_at sorts.now args.now)) }
 {
     match args {
         [test, left, right] => choice_of(
@@ -157,90 +147,6 @@ fn choice(
             sort_of(sorts, *test),
             sort_of(sorts, *left),
             sort_of(sorts, *right),
-        ),
-        _ => Ok(Ruling::Ill),
-    }
-}
-
-/// `select`, by the sorts of its arguments.
-fn select_of(
-    alloc: Global,
-    declared: &Declarations,
-    array: &Sort,
-    key: &Sort,
-) -> Result<Ruling, AllocError>
-    requires { IsTrue (is_sort declared.now array.now) }
-    ensures { IfOk result (λ r. r ≡ ruling_of_family declared.now Family.Select [] (array.now ∷ key.now ∷ [])) }
-{
-    match parts_of_array(declared, array) {
-        Some((keys, entries)) => {
-            let met = is_same_sort(key, keys);
-            copy_where(alloc, met, entries)
-        }
-        None => Ok(Ruling::Ill),
-    }
-}
-
-fn select(
-    alloc: Global,
-    declared: &Declarations,
-    sorts: &[Sort],
-    args: &[TermId],
-) -> Result<Ruling, AllocError>
-    requires sorts { AreSorts declared.now sorts.now }
-    requires ids { AreIds (length sorts.now) args.now }
-    ensures { IfOk result (λ r. r ≡ ruling_of_family declared.now Family.Select [] (sorts_at sorts.now args.now)) }
-{
-    match args {
-        [array, key] => {
-            select_of(
-                alloc,
-                declared,
-                sort_of(sorts, *array),
-                sort_of(sorts, *key),
-            )
-        }
-        _ => Ok(Ruling::Ill),
-    }
-}
-
-/// `store`, by the sorts of its arguments.
-fn store_of(
-    alloc: Global,
-    declared: &Declarations,
-    array: &Sort,
-    key: &Sort,
-    entry: &Sort,
-) -> Result<Ruling, AllocError>
-    requires { IsTrue (is_sort declared.now array.now) }
-    ensures { IfOk result (λ r. r ≡ ruling_of_family declared.now Family.Store [] (array.now ∷ key.now ∷ entry.now ∷ [])) }
-{
-    match parts_of_array(declared, array) {
-        Some((keys, entries)) => {
-            let met = is_same_sort(key, keys) && is_same_sort(entry, entries);
-            copy_where(alloc, met, array)
-        }
-        None => Ok(Ruling::Ill),
-    }
-}
-
-fn store(
-    alloc: Global,
-    declared: &Declarations,
-    sorts: &[Sort],
-    args: &[TermId],
-) -> Result<Ruling, AllocError>
-    requires sorts { AreSorts declared.now sorts.now }
-    requires ids { AreIds (length sorts.now) args.now }
-    ensures { IfOk result (λ r. r ≡ ruling_of_family declared.now Family.Store [] (sorts_at sorts.now args.now)) }
-{
-    match args {
-        [array, key, entry] => store_of(
-            alloc,
-            declared,
-            sort_of(sorts, *array),
-            sort_of(sorts, *key),
-            sort_of(sorts, *entry),
         ),
         _ => Ok(Ruling::Ill),
     }
@@ -271,8 +177,10 @@ fn words_of(
     first: &Sort,
 ) -> Result<Ruling, AllocError>
     requires { IsTrue (is_sort declared.now first.now) }
-    ensures { (count : Count) (ss : List Sort) → met ≡ (counts count 2 (length (first.now ∷ ss)) && all_one (each_is first.now ss)) →
-        IfOk result (λ r. r ≡ ruling_of_family declared.now (Family.BitVectors count outcome) [] (first.now ∷ ss)) }
+    ensures { (count : Count) (ss : List Sort) →
+        met ≡ (counts count 2 (length (first.now ∷ ss)) && all_one (each_is first.now ss)) →
+        IfOk result (λ r. r ≡ ruling_of_family declared.now (Family.BitVectors count outcome) []
+        (first.now ∷ ss)) }
 {
     match width_of(first) {
         Some(width) => outcome_of(alloc, outcome, met, width),
@@ -291,7 +199,8 @@ fn bit_vectors(
     requires sorts { AreSorts declared.now sorts.now }
     requires ids { AreIds (length sorts.now) args.now }
     ensures { IfOk result (λ r. r ≡
-        ruling_of_family declared.now (Family.BitVectors count outcome) [] (sorts_at sorts.now args.now)) }
+        ruling_of_family declared.now (Family.BitVectors count outcome) []
+        (sorts_at sorts.now args.now)) }
 {
     match args {
         [first, rest @ ..] => {
@@ -337,90 +246,12 @@ fn symbol(
     requires declared { AreDeclared declared.now }
     requires symbol { symbol < length declared.now.symbols }
     requires ids { AreIds (length sorts.now) args.now }
-    ensures { IfOk result (λ r. r ≡ ruling_of_family declared.now (Family.Symbol symbol) [] (sorts_at sorts.now args.now)) }
+    ensures { IfOk result (λ r. r ≡ ruling_of_family declared.now (Family.Symbol symbol) []
+        (sorts_at sorts.now args.now)) }
 {
     let signature = declared.symbols.get(symbol as usize);
     let met = are_of(signature.args.items(), sorts, args);
     copy_where(alloc, met, &signature.gives)
-}
-
-/// Whether all arguments are bit vectors.
-fn are_bit_vectors(sorts: &[Sort], args: &[TermId]) -> bool
-    requires { AreIds (length sorts.now) args.now }
-    ensures { result ≡ all_words (sorts_at sorts.now args.now) }
-{
-    for id in args {
-        if width_of(sort_of(sorts, *id)).is_none() {
-            return false;
-        }
-    }
-    true
-}
-
-/// The sum with the width of the sort, where it is within `i128`.
-fn sum_with_width(
-    declared: &Declarations,
-    sum: &Linear,
-    sort: &Sort,
-) -> Result<Option<Linear>, AllocError>
-    requires sort { IsTrue (is_sort declared.now sort.now) }
-    requires sum { NamesBelow (widths declared.now) sum.now.parts }
-    ensures value { IfOk result (λ o. o ≡ sum_with (width sort.now) sum.now) }
-    ensures named { IfOk result (λ o. IfSome o (λ w. NamesBelow (widths declared.now) w.parts)) }
-{
-    match width_of(sort) {
-        Some(m) => {
-            let next = sum_within(sum, m)?;
-            Ok(next)
-        }
-        None => Ok(None),
-    }
-}
-
-/// The sum of the widths, from the left, where it and each partial sum is within `i128`.
-fn sum_of_widths(
-    alloc: Global,
-    declared: &Declarations,
-    sorts: &[Sort],
-    args: &[TermId],
-) -> Result<Option<Linear>, AllocError>
-    requires sorts { AreSorts declared.now sorts.now }
-    requires ids { AreIds (length sorts.now) args.now }
-    ensures sum { IfOk result (λ o. o ≡ summed zero_width (sorts_at sorts.now args.now)) }
-    ensures named { IfOk result (λ o. IfSome o (λ w. NamesBelow (widths declared.now) w.parts)) }
-{
-    let mut sum = Linear::constant(alloc, 0);
-    for id in args {
-        match sum_with_width(declared, &sum, sort_of(sorts, *id))? {
-            Some(next) => sum = next,
-            None => return Ok(None),
-        }
-    }
-    Ok(Some(sum))
-}
-
-fn concat(
-    alloc: Global,
-    declared: &Declarations,
-    sorts: &[Sort],
-    args: &[TermId],
-) -> Result<Ruling, AllocError>
-    requires declared { AreDeclared declared.now }
-    requires sorts { AreSorts declared.now sorts.now }
-    requires ids { AreIds (length sorts.now) args.now }
-    ensures { IfOk result (λ r. r ≡ ruling_of_family declared.now Family.Concat [] (sorts_at sorts.now args.now)) }
-{
-    if args.len() < 2 {
-        return Ok(Ruling::Ill);
-    }
-    if !are_bit_vectors(sorts, args) {
-        return Ok(Ruling::Ill);
-    }
-    formed(
-        alloc,
-        declared,
-        sum_of_widths(alloc, declared, sorts, args)?,
-    )
 }
 
 /// The ruling on an operator without indices.
@@ -435,7 +266,8 @@ pub(crate) fn ruling_of(
     requires sorts { AreSorts declared.now sorts.now }
     requires symbol { IsSymbol (length declared.now.symbols) family }
     requires ids { AreIds (length sorts.now) args.now }
-    ensures { IfOk result (λ r. r ≡ ruling_of_family declared.now family [] (sorts_at sorts.now args.now)) }
+    ensures { IfOk result (λ r. r ≡ ruling_of_family declared.now family []
+        (sorts_at sorts.now args.now)) }
 {
     match family {
         Family::Fixed(count, of, gives) => Ok(fixed(declared, count, of, gives, sorts, args)),

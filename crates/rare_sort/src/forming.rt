@@ -135,7 +135,8 @@ pub(crate) fn extract(
     requires sorts { AreSorts declared.now sorts.now }
     requires names { AreNamed (widths declared.now) indices.now }
     requires ids { AreIds (length sorts.now) args.now }
-    ensures { IfOk result (λ r. r ≡ ruling_of_family declared.now Family.Extract indices.now (sorts_at sorts.now args.now)) }
+    ensures { IfOk result (λ r. r ≡ ruling_of_family declared.now Family.Extract indices.now
+        (sorts_at sorts.now args.now)) }
 {
     let width = width_of_only(declared, sorts, args);
     match indices {
@@ -176,7 +177,8 @@ pub(crate) fn extend(
     requires sorts { AreSorts declared.now sorts.now }
     requires names { AreNamed (widths declared.now) indices.now }
     requires ids { AreIds (length sorts.now) args.now }
-    ensures { IfOk result (λ r. r ≡ ruling_of_family declared.now Family.Extend indices.now (sorts_at sorts.now args.now)) }
+    ensures { IfOk result (λ r. r ≡ ruling_of_family declared.now Family.Extend indices.now
+        (sorts_at sorts.now args.now)) }
 {
     let width = width_of_only(declared, sorts, args);
     match indices {
@@ -217,7 +219,8 @@ pub(crate) fn rotate(
     requires sorts { AreSorts declared.now sorts.now }
     requires names { AreNamed (widths declared.now) indices.now }
     requires ids { AreIds (length sorts.now) args.now }
-    ensures { IfOk result (λ r. r ≡ ruling_of_family declared.now Family.Rotate indices.now (sorts_at sorts.now args.now)) }
+    ensures { IfOk result (λ r. r ≡ ruling_of_family declared.now Family.Rotate indices.now
+        (sorts_at sorts.now args.now)) }
 {
     let width = width_of_only(declared, sorts, args);
     match indices {
@@ -262,7 +265,8 @@ pub(crate) fn repeat(
     requires sorts { AreSorts declared.now sorts.now }
     requires names { AreNamed (widths declared.now) indices.now }
     requires ids { AreIds (length sorts.now) args.now }
-    ensures { IfOk result (λ r. r ≡ ruling_of_family declared.now Family.Repeat indices.now (sorts_at sorts.now args.now)) }
+    ensures { IfOk result (λ r. r ≡ ruling_of_family declared.now Family.Repeat indices.now
+        (sorts_at sorts.now args.now)) }
 {
     let width = width_of_only(declared, sorts, args);
     match indices {
@@ -295,7 +299,9 @@ pub(crate) fn bits(
 ) -> Result<Ruling, AllocError>
     requires declared { AreDeclared declared.now }
     requires names { AreNamed (widths declared.now) indices.now }
-    ensures { (ss : List Sort) → IfOk result (λ r. r ≡ ruling_of_family declared.now Family.Bits indices.now (sorts_at ss args.now)) }
+    ensures { (ss : List Sort) →
+        IfOk result (λ r. r ≡ ruling_of_family declared.now Family.Bits indices.now
+        (sorts_at ss args.now)) }
 {
     match (indices, args) {
         ([width], []) => written(alloc, declared, width),
@@ -311,7 +317,9 @@ pub(crate) fn literal(
 ) -> Result<Ruling, AllocError>
     requires declared { AreDeclared declared.now }
     requires names { AreNamed (widths declared.now) indices.now }
-    ensures { (ss : List Sort) → IfOk result (λ r. r ≡ ruling_of_family declared.now Family.Literal indices.now (sorts_at ss args.now)) }
+    ensures { (ss : List Sort) →
+        IfOk result (λ r. r ≡ ruling_of_family declared.now Family.Literal indices.now
+        (sorts_at ss args.now)) }
 {
     match (indices, args) {
         ([_, width], []) => written(alloc, declared, width),

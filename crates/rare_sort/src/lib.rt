@@ -1,11 +1,13 @@
 //! Sorts, operators and terms as plain trees, and what the rule of sorts says of an application.
 #![tactic(auto)]
 
+mod arrays;
 mod bare;
 mod declarations;
 mod family;
 mod forming;
 mod head;
+mod joins;
 mod laws;
 mod ruling;
 mod sort;

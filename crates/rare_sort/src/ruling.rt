@@ -40,7 +40,8 @@ pub fn ruling_of(
     requires names { AreNamed (widths declared.now) indices.now }
     requires symbol { IsSymbol (length declared.now.symbols) (family head) }
     requires ids { AreIds (length sorts.now) args.now }
-    ensures { IfOk result (λ r. r ≡ ruling declared.now head indices.now (sorts_at sorts.now args.now)) }
+    ensures { IfOk result (λ r. r ≡ ruling declared.now head indices.now
+        (sorts_at sorts.now args.now)) }
 {
     of_family(alloc, declared, family_of(head), indices, sorts, args)
 }
@@ -59,7 +60,8 @@ fn of_family(
     requires names { AreNamed (widths declared.now) indices.now }
     requires symbol { IsSymbol (length declared.now.symbols) family }
     requires ids { AreIds (length sorts.now) args.now }
-    ensures { IfOk result (λ r. r ≡ ruling_of_family declared.now family indices.now (sorts_at sorts.now args.now)) }
+    ensures { IfOk result (λ r. r ≡ ruling_of_family declared.now family indices.now
+        (sorts_at sorts.now args.now)) }
 {
     match family {
         Family::Extract => forming::extract(alloc, declared, indices, sorts, args),

@@ -33,7 +33,8 @@ pub fn follows_in(declared: &Declarations, want: &Linear) -> bool
 /// The sum, where it is within `i128`.
 pub(crate) fn sum_within(a: &Linear, b: &Linear) -> Result<Option<Linear>, AllocError>
     ensures value { IfOk result (λ o. o ≡ within (add a.now b.now)) }
-    ensures named { IfOk result (λ o. (n : ℕ) → NamesBelow n a.now.parts → NamesBelow n b.now.parts →
+    ensures named { IfOk result (λ o. (n : ℕ) → NamesBelow n a.now.parts →
+        NamesBelow n b.now.parts →
         IfSome o (λ w. NamesBelow n w.parts)) }
 {
     match a.add(b) {
@@ -46,7 +47,8 @@ pub(crate) fn sum_within(a: &Linear, b: &Linear) -> Result<Option<Linear>, Alloc
 /// The difference, where it is within `i128`.
 pub(crate) fn difference_within(a: &Linear, b: &Linear) -> Result<Option<Linear>, AllocError>
     ensures value { IfOk result (λ o. o ≡ within (minus a.now b.now)) }
-    ensures named { IfOk result (λ o. (n : ℕ) → NamesBelow n a.now.parts → NamesBelow n b.now.parts →
+    ensures named { IfOk result (λ o. (n : ℕ) → NamesBelow n a.now.parts →
+        NamesBelow n b.now.parts →
         IfSome o (λ w. NamesBelow n w.parts)) }
 {
     match a.minus(b) {
@@ -60,7 +62,8 @@ pub(crate) fn difference_within(a: &Linear, b: &Linear) -> Result<Option<Linear>
 #[tactic(auto, using(crate::proofs::WithinLemmas::given_within, crate::proofs::WithinLemmas::none_within))]
 pub(crate) fn multiple_within(k: i128, a: &Linear) -> Result<Option<Linear>, AllocError>
     ensures value { IfOk result (λ o. o ≡ within (scale k a.now)) }
-    ensures named { IfOk result (λ o. (n : ℕ) → NamesBelow n a.now.parts → IfSome o (λ w. NamesBelow n w.parts)) }
+    ensures named { IfOk result (λ o. (n : ℕ) → NamesBelow n a.now.parts →
+        IfSome o (λ w. NamesBelow n w.parts)) }
 {
     match a.scale(k) {
         Ok(multiple) => Ok(Some(multiple)),

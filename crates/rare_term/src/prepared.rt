@@ -40,8 +40,10 @@ pub fn prepare(
     requires ids { AreIds (length nodes.now) args.now }
     requires symbol { IsSymbol (length declared.now.symbols) (family head) }
     requires names { AreNamed (widths declared.now) indices.now }
-    ensures refused { RefusesTerm (refusal declared.now head indices.now (trees_at (trees_of nodes.now) args.now)) result }
-    ensures prepared { IfOk result (λ p. IsPrepared nodes.now sorts.now declared.now head indices.now args.now p) }
+    ensures refused { RefusesTerm
+        (refusal declared.now head indices.now (trees_at (trees_of nodes.now) args.now)) result }
+    ensures prepared { IfOk result
+        (λ p. IsPrepared nodes.now sorts.now declared.now head indices.now args.now p) }
 {
     if args.len() > MOST_ARGS {
         return Err(TermError::TooManyArgs);

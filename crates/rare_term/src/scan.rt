@@ -61,8 +61,10 @@ fn is_node(node: &Node, head: Head, indices: &[Linear], args: &[TermId]) -> bool
 
 /// The first node with this head, these indices and these arguments.
 pub fn find(nodes: &[Node], head: Head, indices: &[Linear], args: &[TermId]) -> Option<usize>
-    ensures found { IfSome result (λ k. (k < length nodes.now) × IsAt nodes.now k head indices.now args.now) }
-    ensures none { IfNone result ((k : ℕ) → k < length nodes.now → IsAt nodes.now k head indices.now args.now → ⊥) }
+    ensures found { IfSome result (λ k. (k < length nodes.now)
+        × IsAt nodes.now k head indices.now args.now) }
+    ensures none { IfNone result ((k : ℕ) → k < length nodes.now →
+        IsAt nodes.now k head indices.now args.now → ⊥) }
 {
     for (k, node) in nodes.iter().enumerate() {
         if is_node(node, head, indices, args) {
@@ -91,8 +93,10 @@ pub fn judged(
     requires few { length args.now ≤ MOST_ARGS }
     requires small { total ≤ MOST_ARGS * MOST_NODES }
     requires shallow { deepest ≤ MOST_NESTED }
-    ensures sort { IfOk result (λ s. ruling declared.now head indices.now (sorts_at sorts.now args.now) ≡ Ruling.Has s) }
-    ensures refusal { RefusesTerm (refusal_by (ruling declared.now head indices.now (sorts_at sorts.now args.now))
+    ensures sort { IfOk result
+        (λ s. ruling declared.now head indices.now (sorts_at sorts.now args.now) ≡ Ruling.Has s) }
+    ensures refusal { RefusesTerm
+        (refusal_by (ruling declared.now head indices.now (sorts_at sorts.now args.now))
         (has_large_number head indices.now) (length args.now) (1 + deepest) (1 + total)) result }
 {
     let Ok(ruling) = ruling_of(alloc, declared, head, indices, sorts, args) else {

@@ -74,7 +74,8 @@ pub trait Terms {
     /// Adds a constraint on widths. Where memory is wanting, nothing changes.
     fn assume(&mut self, constraint: &Constraint) -> Result<(), AllocError>
         requires { NamesBelow (widths (state self.old).declared) constraint.now.floor.parts }
-        ensures ok { OnOk result (state self.new ≡ under (one_constraint constraint.now) (state self.old)) }
+        ensures ok { OnOk result
+            (state self.new ≡ under (one_constraint constraint.now) (state self.old)) }
         ensures err { OnErr result (state self.new ≡ state self.old) };
 
     /// Whether the constraints entail that the expression is at least 0, where each width name is at
@@ -97,7 +98,8 @@ pub trait Terms {
     fn index(&self, id: TermId, k: usize) -> &Linear
         requires id { id.0 < length (state self.now).trees }
         requires k { k < length (indices_of (tree_at (state self.now).trees id.0)) }
-        ensures { slice_get (indices_of (tree_at (state self.now).trees id.0)) k ≡ Some result.now };
+        ensures { slice_get (indices_of (tree_at (state self.now).trees id.0)) k
+            ≡ Some result.now };
 
     /// How many arguments the term has.
     fn arg_count(&self, id: TermId) -> usize
@@ -109,12 +111,14 @@ pub trait Terms {
         requires id { id.0 < length (state self.now).trees }
         requires k { k < length (args_of (tree_at (state self.now).trees id.0)) }
         ensures id { result.0 < length (state self.now).trees }
-        ensures tree { tree_at (state self.now).trees result.0 ≡ tree_at (args_of (tree_at (state self.now).trees id.0)) k };
+        ensures tree { tree_at (state self.now).trees result.0
+            ≡ tree_at (args_of (tree_at (state self.now).trees id.0)) k };
 
     /// The sort of the term.
     fn sort(&self, id: TermId) -> &Sort
         requires { id.0 < length (state self.now).trees }
-        ensures { result.now ≡ sort_of (state self.now).declared.symbols (tree_at (state self.now).trees id.0) };
+        ensures { result.now ≡ sort_of (state self.now).declared.symbols
+            (tree_at (state self.now).trees id.0) };
 
     /// The id of the term with this operator, these indices and these arguments, literals reduced,
     /// or the first refusal that applies, in the order of `TermError`. The ids, and the symbol if the
@@ -130,9 +134,11 @@ pub trait Terms {
         ensures made { IfOk result (λ id. tree_at (state self.new).trees id.0 ≡
             application head indices.now (trees_at (state self.old).trees args.now)) }
         ensures refused { RefusesTerm
-            (refusal (state self.old).declared head indices.now (trees_at (state self.old).trees args.now)) result }
+            (refusal (state self.old).declared head indices.now
+            (trees_at (state self.old).trees args.now)) result }
         ensures grows { AddsAtMost
-            (application head indices.now (trees_at (state self.old).trees args.now)) (state self.old) (state self.new) }
+            (application head indices.now (trees_at (state self.old).trees args.now))
+            (state self.old) (state self.new) }
         ensures err { OnErr result (state self.new ≡ state self.old) };
 
     /// Equal trees have equal ids.

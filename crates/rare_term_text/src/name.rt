@@ -14,7 +14,8 @@ use std::alloc::Global;
 // The name of a binding, with these bound before it in the same `let`, or its refusal.
 #[tactic(auto, using(crate::proofs::Naming::bound_by))]
 pub(crate) fn read_name<E: Expr>(alloc: Global, e: &E, bound: &Bound) -> Result<Text, Fault>
-    ensures { (ts : List Tree) → Answers result (bound_name (names_of ts bound.now) (E.tree e.now)) }
+    ensures { (ts : List Tree) →
+        Answers result (bound_name (names_of ts bound.now) (E.tree e.now)) }
 {
     if !is_symbol(e) {
         return Err(refusal_at(e, Reason::BadForm));

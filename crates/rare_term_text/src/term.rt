@@ -192,7 +192,8 @@ pub fn read_term<E: Expr, T: Terms>(
     terms: &mut T,
 ) -> Result<TermId, Fault>
     requires { AreMeant (T.state terms.old) scope.now }
-    ensures read { AnswersTerm (T.state terms.new).trees result (term_at (T.state terms.old).declared
+    ensures read { AnswersTerm (T.state terms.new).trees result
+        (term_at (T.state terms.old).declared
         (names_of (T.state terms.old).trees scope.now) (E.tree e.now)) }
     ensures grows { Grows (T.state terms.old) (T.state terms.new) }
 {

@@ -26,7 +26,8 @@ fn with_each_floor<T: Terms>(
 ) -> Result<ProblemReader, Fault>
     requires held { IsProblemOf (T.state terms.old) reader.problem }
     requires named { All (λ f. NamesBelow (length reader.problem.samples) f.parts) floors.now }
-    requires hold { All (λ f. pos 0 ≤ℤ linear_value (sample_number reader.problem.samples) f) floors.now }
+    requires hold { All (λ f. pos 0 ≤ℤ linear_value (sample_number reader.problem.samples) f)
+        floors.now }
     ensures read { AnswersReader (T.state terms.new) result
         (Ok (with_floors floors.now (stated_problem (T.state terms.old) reader.problem))) }
     ensures grows { Extends (T.state terms.old).trees (T.state terms.new).trees }
@@ -51,7 +52,8 @@ fn with_tested_floors<E: Expr, T: Terms>(
     requires held { IsProblemOf (T.state terms.old) reader.problem }
     requires named { All (λ f. NamesBelow (length reader.problem.samples) f.parts) floors.now }
     ensures read { AnswersReader (T.state terms.new) result
-        (tested (stated_problem (T.state terms.old) reader.problem) (E.tree e.now) (E.tree c.now) floors.now) }
+        (tested (stated_problem (T.state terms.old) reader.problem) (E.tree e.now) (E.tree c.now)
+        floors.now) }
     ensures grows { Extends (T.state terms.old).trees (T.state terms.new).trees }
 {
     match reader.hold_at_samples(floors) {
@@ -74,7 +76,8 @@ pub fn read_assumption<E: Expr, T: Terms>(
 ) -> Result<ProblemReader, Fault>
     requires held { IsProblemOf (T.state terms.old) reader.problem }
     ensures read { AnswersReader (T.state terms.new) result
-        (assumption_of_widths (stated_problem (T.state terms.old) reader.problem) (E.tree e.now) (E.tree c.now)) }
+        (assumption_of_widths (stated_problem (T.state terms.old) reader.problem) (E.tree e.now)
+        (E.tree c.now)) }
     ensures grows { Extends (T.state terms.old).trees (T.state terms.new).trees }
 {
     let floors = read_constraints_over(alloc, c, &reader.problem.scope)?;

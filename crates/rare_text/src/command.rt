@@ -28,7 +28,8 @@ fn take_by_word<E: Expr, T: Terms>(
     reader: ProblemReader,
 ) -> Result<ProblemReader, Fault>
     requires held { IsProblemOf (T.state terms.old) reader.problem }
-    ensures read { AnswersReader (T.state terms.new) result (command_by (stated_problem (T.state terms.old) reader.problem)
+    ensures read { AnswersReader (T.state terms.new) result
+        (command_by (stated_problem (T.state terms.old) reader.problem)
         (E.tree e.now) word (drop 1 (items_of (E.tree e.now)))) }
     ensures grows { Extends (T.state terms.old).trees (T.state terms.new).trees }
 {

@@ -22,7 +22,8 @@ pub fn read_sort_declaration<E: Expr, T: Terms>(
 ) -> Result<ProblemReader, Fault>
     requires held { IsProblemOf (T.state terms.old) reader.problem }
     ensures read { AnswersReader (T.state terms.new) result
-        (sort_declaration (stated_problem (T.state terms.old) reader.problem) (E.tree name.now) (E.tree arity.now)) }
+        (sort_declaration (stated_problem (T.state terms.old) reader.problem) (E.tree name.now)
+        (E.tree arity.now)) }
     ensures grows { Extends (T.state terms.old).trees (T.state terms.new).trees }
 {
     let sort_name = read_new_name(alloc, name, &reader.problem.scope)?;
@@ -42,7 +43,8 @@ pub fn read_constant_declaration<E: Expr, T: Terms>(
 ) -> Result<ProblemReader, Fault>
     requires held { IsProblemOf (T.state terms.old) reader.problem }
     ensures read { AnswersReader (T.state terms.new) result
-        (constant_declaration (stated_problem (T.state terms.old) reader.problem) (E.tree name.now) (E.tree sort.now)) }
+        (constant_declaration (stated_problem (T.state terms.old) reader.problem) (E.tree name.now)
+        (E.tree sort.now)) }
     ensures grows { Extends (T.state terms.old).trees (T.state terms.new).trees }
 {
     let constant_name = read_new_name(alloc, name, &reader.problem.scope)?;
@@ -81,7 +83,8 @@ pub fn read_width_declaration<E: Expr, T: Terms>(
 ) -> Result<ProblemReader, Fault>
     requires held { IsProblemOf (T.state terms.old) reader.problem }
     ensures read { AnswersReader (T.state terms.new) result
-        (width_declaration (stated_problem (T.state terms.old) reader.problem) (E.tree name.now) (E.tree sample.now)) }
+        (width_declaration (stated_problem (T.state terms.old) reader.problem) (E.tree name.now)
+        (E.tree sample.now)) }
     ensures grows { Extends (T.state terms.old).trees (T.state terms.new).trees }
 {
     let width_name = read_new_name(alloc, name, &reader.problem.scope)?;

@@ -63,7 +63,8 @@ impl ProblemReader {
         requires args { All (IsDeclaredSort (T.state terms.old).declared) args.now }
         requires gives { IsDeclaredSort (T.state terms.old).declared gives.now }
         ensures read { AnswersReader (T.state terms.new) result
-            (Ok (symbol_more name.now args.now gives.now (stated_problem (T.state terms.old) self.problem))) }
+            (Ok (symbol_more name.now args.now gives.now
+            (stated_problem (T.state terms.old) self.problem))) }
         ensures grows { Extends (T.state terms.old).trees (T.state terms.new).trees }
     {
         let ProblemReader {
@@ -162,10 +163,12 @@ impl ProblemReader {
     /// The problem with one rewrite more, whose sides have one sort.
     pub fn with_rewrite<T: Terms>(self, rewrite: Rewrite, terms: &T) -> Result<ProblemReader, Fault>
         requires held { IsProblemOf (T.state terms.now) self.problem }
-        requires new { list_any (bytes_eq rewrite.name) (map (λ r. r.name) self.problem.rewrites) ≡ false }
+        requires new { list_any (bytes_eq rewrite.name) (map (λ r. r.name) self.problem.rewrites)
+            ≡ false }
         requires left { rewrite.left.0 < length (T.state terms.now).trees }
         requires right { rewrite.right.0 < length (T.state terms.now).trees }
-        requires sort { let s = T.state terms.now in sort_of s.declared.symbols (tree_at s.trees rewrite.left.0)
+        requires sort { let s = T.state terms.now in sort_of s.declared.symbols
+            (tree_at s.trees rewrite.left.0)
             ≡ sort_of s.declared.symbols (tree_at s.trees rewrite.right.0) }
         ensures { AnswersReader (T.state terms.now) result
             (Ok (rewrite_more (stated_rewrite (T.state terms.now).trees rewrite)

@@ -23,7 +23,8 @@ pub const LARGEST_SAMPLE: usize = 1 << 32;
 /// A name that may be declared: `BadForm` at an expression that is no symbol, `DeclaredTwice` at a name that
 /// is declared or a word of the theories, `ReservedSymbol` at a reserved one.
 pub fn read_new_name<E: Expr>(alloc: Global, e: &E, scope: &Scope) -> Result<Text, Fault>
-    ensures read { (ts : List Tree) → Answers result (new_name (names_of ts scope.now) (E.tree e.now)) }
+    ensures read { (ts : List Tree) → Answers result
+        (new_name (names_of ts scope.now) (E.tree e.now)) }
     ensures new { IfOk result (λ name. is_declared scope.now name ≡ false) }
 {
     let name = read_symbol(e)?;
@@ -88,7 +89,8 @@ pub fn read_sorts<T: Terms, E: Expr>(
 ) -> Result<Sorts, Fault>
     requires { AreMeant (T.state terms.now) scope.now }
     ensures read { Answers result
-        (sorts_at (T.state terms.now).declared (names_of (T.state terms.now).trees scope.now) (E.tree e.now)) }
+        (sorts_at (T.state terms.now).declared (names_of (T.state terms.now).trees scope.now)
+        (E.tree e.now)) }
     ensures declared { IfOk result (λ ss. All (IsDeclaredSort (T.state terms.now).declared) ss) }
 {
     if !is_list(e) {

@@ -19,7 +19,8 @@ pub fn pass_logic<E: Expr, T: Terms>(
     reader: ProblemReader,
 ) -> Result<ProblemReader, Fault>
     requires { IsProblemOf (T.state terms.now) reader.problem }
-    ensures { AnswersReader (T.state terms.now) result (command_by (stated_problem (T.state terms.now) reader.problem)
+    ensures { AnswersReader (T.state terms.now) result
+        (command_by (stated_problem (T.state terms.now) reader.problem)
         (E.tree e.now) CommandWord.SetLogic (drop 1 (items_of (E.tree e.now)))) }
 {
     let _ = terms;
@@ -40,7 +41,8 @@ pub fn pass_info<E: Expr, T: Terms>(
     reader: ProblemReader,
 ) -> Result<ProblemReader, Fault>
     requires { IsProblemOf (T.state terms.now) reader.problem }
-    ensures { AnswersReader (T.state terms.now) result (command_by (stated_problem (T.state terms.now) reader.problem)
+    ensures { AnswersReader (T.state terms.now) result
+        (command_by (stated_problem (T.state terms.now) reader.problem)
         (E.tree e.now) CommandWord.SetInfo (drop 1 (items_of (E.tree e.now)))) }
 {
     let _ = terms;
@@ -61,7 +63,8 @@ pub fn pass_option<E: Expr, T: Terms>(
     reader: ProblemReader,
 ) -> Result<ProblemReader, Fault>
     requires { IsProblemOf (T.state terms.now) reader.problem }
-    ensures { AnswersReader (T.state terms.now) result (command_by (stated_problem (T.state terms.now) reader.problem)
+    ensures { AnswersReader (T.state terms.now) result
+        (command_by (stated_problem (T.state terms.now) reader.problem)
         (E.tree e.now) CommandWord.SetOption (drop 1 (items_of (E.tree e.now)))) }
 {
     let _ = terms;

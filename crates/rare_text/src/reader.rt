@@ -42,7 +42,8 @@ impl ProblemReader {
 
     /// Whether a rewrite has this name.
     pub fn has_rewrite(&self, name: &[u8]) -> bool
-        ensures { result ≡ list_any (bytes_eq name.now) (map (λ r. r.name) self.now.problem.rewrites) }
+        ensures { result ≡ list_any (bytes_eq name.now)
+            (map (λ r. r.name) self.now.problem.rewrites) }
     {
         self.names.contains(name)
     }

@@ -17,9 +17,11 @@ impl ProblemReader {
     // The value of an expression at the samples, unless a partial sum of it leaves `i128` there.
     fn value_at_samples(&self, e: &Linear) -> Result<Linear, LinearError>
         requires { NamesBelow (length self.now.problem.samples) e.now.parts }
-        ensures value { IfOk result (λ v. v ≡ number (linear_value (sample_number self.now.problem.samples) e.now)) }
+        ensures value { IfOk result
+            (λ v. v ≡ number (linear_value (sample_number self.now.problem.samples) e.now)) }
         ensures fits { OnOk result (fits_samples self.now.problem.samples e.now ≡ true) }
-        ensures too_large { result ≡ Err LinearError.TooLarge → fits_samples self.now.problem.samples e.now ≡ false }
+        ensures too_large { result ≡ Err LinearError.TooLarge →
+            fits_samples self.now.problem.samples e.now ≡ false }
     {
         e.substitute(self.values.items())
     }
@@ -28,9 +30,11 @@ impl ProblemReader {
     /// one of them leaves `i128` there.
     pub fn hold_at_samples(&self, floors: &[Linear]) -> Result<bool, LinearError>
         requires { All (λ f. NamesBelow (length self.now.problem.samples) f.parts) floors.now }
-        ensures holds { IfOk result (λ all. all ≡ hold_at_samples self.now.problem.samples floors.now) }
+        ensures holds { IfOk result
+            (λ all. all ≡ hold_at_samples self.now.problem.samples floors.now) }
         ensures fit { OnOk result (fit_samples self.now.problem.samples floors.now ≡ true) }
-        ensures too_large { result ≡ Err LinearError.TooLarge → fit_samples self.now.problem.samples floors.now ≡ false }
+        ensures too_large { result ≡ Err LinearError.TooLarge →
+            fit_samples self.now.problem.samples floors.now ≡ false }
     {
         let mut all = true;
         for floor in floors {

@@ -28,7 +28,8 @@ pub fn take_sort<E: Expr, T: Terms>(
     reader: ProblemReader,
 ) -> Result<ProblemReader, Fault>
     requires held { IsProblemOf (T.state terms.old) reader.problem }
-    ensures read { AnswersReader (T.state terms.new) result (command_by (stated_problem (T.state terms.old) reader.problem)
+    ensures read { AnswersReader (T.state terms.new) result
+        (command_by (stated_problem (T.state terms.old) reader.problem)
         (E.tree e.now) CommandWord.DeclareSort (drop 1 (items_of (E.tree e.now)))) }
     ensures grows { Extends (T.state terms.old).trees (T.state terms.new).trees }
 {
@@ -46,7 +47,8 @@ pub fn take_constant<E: Expr, T: Terms>(
     reader: ProblemReader,
 ) -> Result<ProblemReader, Fault>
     requires held { IsProblemOf (T.state terms.old) reader.problem }
-    ensures read { AnswersReader (T.state terms.new) result (command_by (stated_problem (T.state terms.old) reader.problem)
+    ensures read { AnswersReader (T.state terms.new) result
+        (command_by (stated_problem (T.state terms.old) reader.problem)
         (E.tree e.now) CommandWord.DeclareConst (drop 1 (items_of (E.tree e.now)))) }
     ensures grows { Extends (T.state terms.old).trees (T.state terms.new).trees }
 {
@@ -64,7 +66,8 @@ pub fn take_function<E: Expr, T: Terms>(
     reader: ProblemReader,
 ) -> Result<ProblemReader, Fault>
     requires held { IsProblemOf (T.state terms.old) reader.problem }
-    ensures read { AnswersReader (T.state terms.new) result (command_by (stated_problem (T.state terms.old) reader.problem)
+    ensures read { AnswersReader (T.state terms.new) result
+        (command_by (stated_problem (T.state terms.old) reader.problem)
         (E.tree e.now) CommandWord.DeclareFun (drop 1 (items_of (E.tree e.now)))) }
     ensures grows { Extends (T.state terms.old).trees (T.state terms.new).trees }
 {
@@ -82,7 +85,8 @@ pub fn take_definition<E: Expr, T: Terms>(
     reader: ProblemReader,
 ) -> Result<ProblemReader, Fault>
     requires held { IsProblemOf (T.state terms.old) reader.problem }
-    ensures read { AnswersReader (T.state terms.new) result (command_by (stated_problem (T.state terms.old) reader.problem)
+    ensures read { AnswersReader (T.state terms.new) result
+        (command_by (stated_problem (T.state terms.old) reader.problem)
         (E.tree e.now) CommandWord.DefineFun (drop 1 (items_of (E.tree e.now)))) }
     ensures grows { Extends (T.state terms.old).trees (T.state terms.new).trees }
 {
@@ -108,7 +112,8 @@ pub fn take_width<E: Expr, T: Terms>(
     reader: ProblemReader,
 ) -> Result<ProblemReader, Fault>
     requires held { IsProblemOf (T.state terms.old) reader.problem }
-    ensures read { AnswersReader (T.state terms.new) result (command_by (stated_problem (T.state terms.old) reader.problem)
+    ensures read { AnswersReader (T.state terms.new) result
+        (command_by (stated_problem (T.state terms.old) reader.problem)
         (E.tree e.now) CommandWord.DeclareWidth (drop 1 (items_of (E.tree e.now)))) }
     ensures grows { Extends (T.state terms.old).trees (T.state terms.new).trees }
 {
@@ -126,7 +131,8 @@ pub fn take_assumption<E: Expr, T: Terms>(
     reader: ProblemReader,
 ) -> Result<ProblemReader, Fault>
     requires held { IsProblemOf (T.state terms.old) reader.problem }
-    ensures read { AnswersReader (T.state terms.new) result (command_by (stated_problem (T.state terms.old) reader.problem)
+    ensures read { AnswersReader (T.state terms.new) result
+        (command_by (stated_problem (T.state terms.old) reader.problem)
         (E.tree e.now) CommandWord.AssumeWidth (drop 1 (items_of (E.tree e.now)))) }
     ensures grows { Extends (T.state terms.old).trees (T.state terms.new).trees }
 {
@@ -144,7 +150,8 @@ pub fn take_rewrite<E: Expr, T: Terms>(
     reader: ProblemReader,
 ) -> Result<ProblemReader, Fault>
     requires held { IsProblemOf (T.state terms.old) reader.problem }
-    ensures read { AnswersReader (T.state terms.new) result (command_by (stated_problem (T.state terms.old) reader.problem)
+    ensures read { AnswersReader (T.state terms.new) result
+        (command_by (stated_problem (T.state terms.old) reader.problem)
         (E.tree e.now) CommandWord.Rewrite (drop 1 (items_of (E.tree e.now)))) }
     ensures grows { Extends (T.state terms.old).trees (T.state terms.new).trees }
 {

@@ -33,8 +33,10 @@ fn read_defined_term<E: Expr, T: Terms>(
     reader: &ProblemReader,
 ) -> Result<TermId, Fault>
     requires { IsProblemOf (T.state terms.old) reader.now.problem }
-    ensures read { AnswersTerm (T.state terms.new).trees result (defined_term (T.state terms.old).declared
-        (names_of (T.state terms.old).trees reader.now.problem.scope) (E.tree args.now) (E.tree sort.now) (E.tree term.now)) }
+    ensures read { AnswersTerm (T.state terms.new).trees result
+        (defined_term (T.state terms.old).declared
+        (names_of (T.state terms.old).trees reader.now.problem.scope) (E.tree args.now)
+        (E.tree sort.now) (E.tree term.now)) }
     ensures grows { Grows (T.state terms.old) (T.state terms.new) }
 {
     if !is_nothing(args) {
@@ -76,8 +78,10 @@ fn read_rewrite_name<E: Expr>(
     reader: &ProblemReader,
 ) -> Result<Text, Fault>
     ensures read { (ts : List Tree) →
-        Answers result (rewrite_name (map (stated_rewrite ts) reader.now.problem.rewrites) (E.tree name.now)) }
-    ensures new { IfOk result (λ text. list_any (bytes_eq text) (map (λ r. r.name) reader.now.problem.rewrites) ≡ false) }
+        Answers result (rewrite_name (map (stated_rewrite ts) reader.now.problem.rewrites)
+        (E.tree name.now)) }
+    ensures new { IfOk result
+        (λ text. list_any (bytes_eq text) (map (λ r. r.name) reader.now.problem.rewrites) ≡ false) }
 {
     let text = read_symbol(name)?;
     if reader.has_rewrite(text) {

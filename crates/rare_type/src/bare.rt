@@ -134,7 +134,8 @@ fn select(alloc: Global, least: usize, sorts: &[Sort]) -> Result<Sort, TypeError
 
 /// `store`, by the sorts of its arguments.
 fn store_of(alloc: Global, array: &Sort, key: &Sort, entry: &Sort) -> Result<Sort, TypeError>
-    ensures { Reports (family_sort 2 Family.Store [] (array.now ∷ key.now ∷ entry.now ∷ [])) result }
+    ensures { Reports (family_sort 2 Family.Store [] (array.now ∷ key.now ∷ entry.now ∷ []))
+        result }
 {
     match parts_of_array(array) {
         Some((keys, entries)) => {

@@ -42,7 +42,8 @@ fn slice(alloc: Global, j: &Linear, i: &Linear) -> Result<Sort, TypeError>
 }
 
 fn extract(alloc: Global, indices: &[Linear], sorts: &[Sort]) -> Result<Sort, TypeError>
-    ensures { (least : ℕ) → Reports (family_sort least Family.Extract indices.now sorts.now) result }
+    ensures { (least : ℕ) → Reports (family_sort least Family.Extract indices.now sorts.now)
+        result }
 {
     match (indices, width_of_only(sorts)) {
         ([j, i], Some(_)) => slice(alloc, j, i),
@@ -112,7 +113,8 @@ fn bits(alloc: Global, indices: &[Linear], sorts: &[Sort]) -> Result<Sort, TypeE
 }
 
 fn literal(alloc: Global, indices: &[Linear], sorts: &[Sort]) -> Result<Sort, TypeError>
-    ensures { (least : ℕ) → Reports (family_sort least Family.Literal indices.now sorts.now) result }
+    ensures { (least : ℕ) → Reports (family_sort least Family.Literal indices.now sorts.now)
+        result }
 {
     match (indices, sorts) {
         ([_, width], []) => Ok(Sort::BitVec(width.copy(alloc)?)),

@@ -75,7 +75,8 @@ fn application(
     args: Args,
 ) -> Result<Found, TypeError>
     ensures { Finds
-        (head_applied (sort_behind root.entry) head indices.now (spec_places args.places) args.needs)
+        (head_applied (sort_behind root.entry) head indices.now (spec_places args.places)
+        args.needs)
         result }
 {
     let places = args.places.items();

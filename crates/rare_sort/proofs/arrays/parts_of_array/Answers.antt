@@ -2,7 +2,7 @@ use Rattle.std.proofs.Common.{◌≡◌, ap, sym, ◌∙◌, Some, subst}
 use Rattle.rare_sort.specs.SortRules.{array_parts}
 use Rattle.rare_sort.specs.DeclaredSorts.{is_sort}
 use Rattle.rare_sort.proofs.NeedsLemmas.{array_parts-Array, parts_checked}
-use Rattle.rare_sort.proofs.bare.parts_of_array.Goals as goal
+use Rattle.rare_sort.proofs.arrays.parts_of_array.Goals as goal
 
 pub returns-in-Array-clause-parts : goal.returns-in-Array-clause-parts
 returns-in-Array-clause-parts c =

@@ -1,8 +1,8 @@
 use Rattle.std.proofs.Common.{◌≡◌, ◌&&◌, ap, sym, ◌∙◌, subst, IfOk}
 use Rattle.rare_sort.specs.Sameness.{sort_eq}
 use Rattle.rare_sort.proofs.RulingLemmas.{store_ruled}
-use Rattle.rare_sort.proofs.bare.store_of.Goals as goal
-use Rattle.rare_sort.proofs.bare.store_of.Goals.{then-is_same_sort, else-is_same_sort}
+use Rattle.rare_sort.proofs.arrays.store_of.Goals as goal
+use Rattle.rare_sort.proofs.arrays.store_of.Goals.{then-is_same_sort, else-is_same_sort}
 
 pub returns-after-is_same_sort : goal.returns-after-is_same_sort
 returns-after-is_same_sort c =

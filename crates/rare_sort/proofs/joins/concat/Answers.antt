@@ -3,7 +3,7 @@ use Rattle.std.proofs.lemmas.Bool.Decides.{nat_tests}
 use Rattle.std.specs.Prelude.{nat_le, length, true}
 use Rattle.rare_sort.specs.Ids.{sorts_at}
 use Rattle.rare_sort.proofs.RulingLemmas.{concat_ruled, concat_other, length_sorts_at}
-use Rattle.rare_sort.proofs.bare.concat.Goals as goal
+use Rattle.rare_sort.proofs.joins.concat.Goals as goal
 
 pub returns-then-not-are_bit_vectors : goal.returns-then-not-are_bit_vectors
 returns-then-not-are_bit_vectors c =

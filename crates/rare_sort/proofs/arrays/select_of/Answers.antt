@@ -1,6 +1,6 @@
 use Rattle.std.proofs.Common.{◌≡◌, sym, subst, IfOk}
 use Rattle.rare_sort.proofs.RulingLemmas.{select_ruled}
-use Rattle.rare_sort.proofs.bare.select_of.Goals as goal
+use Rattle.rare_sort.proofs.arrays.select_of.Goals as goal
 
 pub returns-in-Some : goal.returns-in-Some
 returns-in-Some c =

@@ -1,6 +1,6 @@
 use Rattle.std.proofs.Common.{◌≡◌, sym}
 use Rattle.rare_sort.proofs.NeedsLemmas.{width_fine}
-use Rattle.rare_sort.proofs.bare.sum_with_width.Goals as goal
+use Rattle.rare_sort.proofs.joins.sum_with_width.Goals as goal
 
 pub returns-in_ok-next-in-Some-clause-named : goal.returns-in_ok-next-in-Some-clause-named
 returns-in_ok-next-in-Some-clause-named c =

@@ -3,7 +3,7 @@ use Rattle.rare_linear.specs.Linears.{NamesBelow}
 use Rattle.rare_sort.specs.DeclaredSorts.{widths}
 use Rattle.rare_sort.specs.Ids.{sorts_at}
 use Rattle.rare_sort.specs.inner.Within.{summed, zero_width}
-use Rattle.rare_sort.proofs.bare.sum_of_widths.Given as goal
+use Rattle.rare_sort.proofs.joins.sum_of_widths.Given as goal
 
 -- the sum so far, with what is left, is the whole sum
 abbrev pub invariant-loop-id : goal.invariant-loop-id
